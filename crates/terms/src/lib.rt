@@ -1,0 +1,21 @@
+//! Views and the terms that they are grouped into.
+ghost use Prim.Native.Nat.{_<_, _^_};
+
+mod fault;
+mod views;
+
+pub use fault::Fault;
+
+/// A view: the number of a step of the register's agreement.
+pub type View = u64;
+
+/// The highest view whose term's end is told.
+pub const LAST_VIEW: View = 1 << 62;
+
+/// How many views a term has: 1 to 2^32 - 1.
+#[derive(Clone, Copy, Debug, PartialEq, Eq)]
+pub struct TermLength {
+    length: u32,
+    ghost positive: { 0 < length },
+    ghost bounded: { length < 2 ^ 32 },
+}
