@@ -1,0 +1,22 @@
+//! The certificate record: one certificate in 96 bytes.
+mod certificate;
+mod fault;
+mod kind;
+mod reading;
+mod stored;
+mod writing;
+
+pub use certificate::Certificate;
+pub use certificate::Digest;
+pub use certificate::Header;
+pub use certificate::Proof;
+pub use certificate::Proposal;
+pub use certificate::Round;
+pub use fault::Fault;
+pub use kind::Kind;
+pub use kind::KindDisplay;
+pub use stored::CertificateRecord;
+pub use stored::Record;
+
+/// How many bytes a record has.
+pub const LENGTH: usize = 96;
