@@ -17,6 +17,7 @@ pub use kind::Kind;
 pub use kind::KindDisplay;
 pub use stored::CertificateRecord;
 pub use stored::Record;
+pub use writing::frame;
 
 /// How many bytes a record has.
 pub const LENGTH: usize = 96;

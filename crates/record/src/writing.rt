@@ -32,7 +32,7 @@ fn put_number(bytes: &mut [u8], at: usize, number: u64)
 }
 
 /// The bytes of a record: the kind, seven zeros, and the fields one after the other.
-fn frame(kind: Kind, proposal: &Proposal, proof: &Proof) -> [u8; LENGTH]
+pub fn frame(kind: Kind, proposal: &Proposal, proof: &Proof) -> [u8; LENGTH]
     ensures value { λ r. ⌜ r ≡ framed kind (now (proposal .entry)) (now (proof .entry)) ⌝ }
     ensures sized { λ _. ⌜ Sized (now (proposal .entry)) (now (proof .entry)) ⌝ }
 {

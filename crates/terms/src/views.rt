@@ -40,7 +40,7 @@ impl TermLength {
         (view - 1) / length * length + 1
     }
 
-    /// Whether `view` is the first view of its term.
+    /// Whether a term begins at `view`.
     pub const fn is_term_start(self, view: View) -> bool
         ensures value { λ r. ⌜ r ≡ is-start (views self) view ⌝ }
         ensures start_covered { λ _. ⌜ Start-covered (views self) ⌝ }
