@@ -1,9 +1,13 @@
 -- The words of each problem.
 use mathlib.Core.List.{List}
+use mathlib.Core.Logic.{_⊎_}
+use mathlib.Core.Path.{_≡_}
 use Prim.Native.Nat.{ℕ}
 use lib.Chars.{codes}
+use Rattle.std.specs.declared.result.Result.{Result}
+use Rattle.std.specs.declared.result.Result.the-variants.{Ok, Err}
 use Rattle.words.specs.declared.problem.Problem.{Problem}
-use Rattle.words.specs.declared.problem.Problem.the-variants.{UnknownCommand, NotAvailable, MissingWord, ExtraWord, NotANumber, OutOfRange, NotARecord, OddHex, NotHex}
+use Rattle.words.specs.declared.problem.Problem.the-variants.{UnknownCommand, NotAvailable, MissingWord, ExtraWord, NotANumber, OutOfRange, NotARecord, OddHex, NotHex, OutOfMemory}
 
 abbrev pub textOf : Problem → List ℕ
 textOf UnknownCommand = codes "unknown command"
@@ -15,3 +19,9 @@ textOf OutOfRange = codes "number out of range"
 textOf NotARecord = codes "not a record: expected 'bytes' or a kind"
 textOf OddHex = codes "odd number of hex digits"
 textOf NotHex = codes "not lower-case hex digits"
+textOf OutOfMemory = codes "out of memory"
+
+-- what is answered, up to memory: the value or the problem that is meant, or that there was no memory
+abbrev pub Told : {A B : Type 0} → Result A Problem → (A → B) → Result B Problem → Type 0
+Told (Ok x) f meant = meant ≡ Ok (f x)
+Told (Err p) f meant = (p ≡ OutOfMemory) ⊎ (meant ≡ Err p)

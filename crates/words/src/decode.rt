@@ -1,13 +1,13 @@
 ghost use mathlib.Core.Path.{_≡_};
 ghost use Rattle.std.specs.Of.Vec.{vec-items};
-ghost use Rattle.std.specs.Results.{Cases};
 ghost use Rattle.std.specs.Vec.{made};
-ghost use Rattle.std.specs.declared.result.Result.the-variants.{Ok, Err};
 ghost use Rattle.words.specs.Hex.{nibbleOf, decoded, hexOf};
+ghost use Rattle.words.specs.Problems.{Told};
 use crate::Problem;
 use crate::class::Hex;
 use crate::class::HexClass;
 use crate::class::all;
+use crate::problem::ProblemFromAlloc;
 use std::alloc::AllocError;
 use std::alloc::Global;
 
@@ -36,20 +36,20 @@ fn decode(heap: Global, word: &[u8]) -> Result<Vec<u8>, AllocError>
 }
 
 /// The bytes that a word writes in hex, where a lone hyphen writes none.
-pub fn hex(heap: Global, word: &[u8]) -> Result<Result<Vec<u8>, Problem>, AllocError>
-    ensures { λ r. ⌜ made r (λ p. Cases p (λ v. hexOf (now (word .entry)) ≡ Ok (vec-items v)) (λ e. hexOf (now (word .entry)) ≡ Err e)) ⌝ }
+pub fn hex(heap: Global, word: &[u8]) -> Result<Vec<u8>, Problem>
+    ensures { λ r. ⌜ Told r vec-items (hexOf (now (word .entry))) ⌝ }
 {
     if word.is_empty() {
-        return Ok(Err(Problem::MissingWord));
+        return Err(Problem::MissingWord);
     }
     if word == b"-" {
-        return Ok(Ok(Vec::new(heap)));
+        return Ok(Vec::new(heap));
     }
     if !all(&Hex, word) {
-        return Ok(Err(Problem::NotHex));
+        return Err(Problem::NotHex);
     }
     if word.len() % 2 == 1 {
-        return Ok(Err(Problem::OddHex));
+        return Err(Problem::OddHex);
     }
-    Ok(Ok(decode(heap, word)?))
+    Ok(decode(heap, word)?)
 }

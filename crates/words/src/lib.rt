@@ -8,6 +8,7 @@ pub use digits::decimal;
 pub use decode::hex;
 pub use problem::Problem;
 pub use problem::ProblemDisplay;
+pub use problem::ProblemFromAlloc;
 pub use split::up_to;
 pub use split::uncommented;
 pub use split::word;

@@ -1,6 +1,8 @@
 ghost use mathlib.Core.Path.{_≡_};
 ghost use Rattle.std.specs.declared.option.Option.the-variants.{Some};
 ghost use Rattle.words.specs.Problems.{textOf};
+ghost use Rattle.words.specs.declared.problem.Problem.the-variants.{OutOfMemory};
+use std::alloc::AllocError;
 use std::fmt;
 
 /// Why a line is no command.
@@ -15,6 +17,7 @@ pub enum Problem {
     NotARecord,
     OddHex,
     NotHex,
+    OutOfMemory,
 }
 
 impl Problem {
@@ -32,6 +35,7 @@ impl Problem {
             Problem::NotARecord => "not a record: expected 'bytes' or a kind",
             Problem::OddHex => "odd number of hex digits",
             Problem::NotHex => "not lower-case hex digits",
+            Problem::OutOfMemory => "out of memory",
         }
     }
 }
@@ -41,5 +45,13 @@ pub impl fmt::Display for Problem as ProblemDisplay {
 
     fn fmt<W: fmt::Write>(&self, f: &mut fmt::Formatter<W>) -> fmt::Result {
         f.write_str(self.as_str())
+    }
+}
+
+pub impl From<AllocError> for Problem as ProblemFromAlloc {
+    ghost converts = { λ _ p. p ≡ OutOfMemory };
+
+    fn from(_error: AllocError) -> Problem {
+        Problem::OutOfMemory
     }
 }

@@ -1,6 +1,7 @@
 use mathlib.Core.Bool.{Bool}
 use mathlib.Core.List.{List, [], _∷_}
-use mathlib.Core.Path.{_≡_, sym, ap, _∙_}
+use mathlib.Core.Logic.{inl, inr}
+use mathlib.Core.Path.{_≡_, refl, sym, ap, _∙_}
 use native.Mathlib.Omega.{arith}
 use Prim.Native.Nat.{ℕ}
 use Rattle.std.specs.Lexical.{Matches}
@@ -8,6 +9,7 @@ use Rattle.std.specs.Orderings.{Decides}
 use Rattle.std.specs.declared.result.Result.the-variants.{Ok}
 use Rattle.std.specs.shelf.Text.{sameBytes}
 use Rattle.std.proofs.shelf.Equals.{matches-decides, sameBytes-decides}
+use Rattle.std.proofs.shelf.Results.{err-from-errBy}
 use Rattle.std.proofs.shelf.Tests.{cond-true, cond-false, eq-eqb, ne-eqb}
 use Rattle.std.proofs.shelf.Ways.{same-from-decides}
 use Rattle.words.specs.Hex.{hexOf}
@@ -19,7 +21,7 @@ hyphen w r t m e = same-from-decides _ r (sameBytes-decides w (45 ∷ [])) (matc
 
 pub returns-then-is-empty : need.returns-then-is-empty
 unfolding hexOf
-returns-then-is-empty c = cond-true _ _ _ (sym (c .if-is-empty .ensures tt))
+returns-then-is-empty c = inr (cond-true _ _ _ (sym (c .if-is-empty .ensures tt)))
 
 pub returns-then-eq : need.returns-then-eq
 unfolding hexOf
@@ -31,13 +33,18 @@ pub returns-then-not-all : need.returns-then-not-all
 unfolding hexOf
 returns-then-not-all c =
     let other = hyphen _ _ _ (c .eq .ensures) (c .if-eq .left) in
-    cond-false _ _ _ (sym (c .if-is-empty .ensures tt)) ∙ cond-false _ _ _ other ∙ cond-false _ _ _ (sym (c .if-not-all .ensures tt))
+    inr (cond-false _ _ _ (sym (c .if-is-empty .ensures tt)) ∙ cond-false _ _ _ other ∙ cond-false _ _ _ (sym (c .if-not-all .ensures tt)))
 
 pub returns-then-word-eq1 : need.returns-then-word-eq1
 unfolding hexOf
 returns-then-word-eq1 c =
     let other = hyphen _ _ _ (c .eq .ensures) (c .if-eq .left) in
-    cond-false _ _ _ (sym (c .if-is-empty .ensures tt)) ∙ cond-false _ _ _ other ∙ cond-true _ _ _ (sym (c .if-not-all .ensures tt)) ∙ cond-true _ _ _ (eq-eqb _ 1 (c .if-word-eq1 .taken))
+    inr (cond-false _ _ _ (sym (c .if-is-empty .ensures tt)) ∙ cond-false _ _ _ other ∙ cond-true _ _ _ (sym (c .if-not-all .ensures tt)) ∙ cond-true _ _ _ (eq-eqb _ 1 (c .if-word-eq1 .taken)))
+
+pub returns-in-Break-decode : need.returns-in-Break-decode
+returns-in-Break-decode c =
+    let p = err-from-errBy (c .from-residual .result) (c .from-residual .ensures .1) in
+    rw (p .1, p .2) (inl refl)
 
 pub returns : need.returns
 unfolding hexOf

@@ -25,3 +25,6 @@ returns-in-OddHex c = ap textOf (sym (c .in-OddHex .is))
 
 pub returns-in-NotHex : need.returns-in-NotHex
 returns-in-NotHex c = ap textOf (sym (c .in-NotHex .is))
+
+pub returns-in-OutOfMemory : need.returns-in-OutOfMemory
+returns-in-OutOfMemory c = ap textOf (sym (c .in-OutOfMemory .is))
