@@ -1,10 +1,10 @@
 //! The certificate record: one certificate in 96 bytes.
-mod certificate;
-mod fault;
-mod kind;
-mod reading;
-mod stored;
-mod writing;
+pub mod certificate;
+pub mod fault;
+pub mod kind;
+pub mod reading;
+pub mod stored;
+pub mod writing;
 
 pub use certificate::Certificate;
 pub use certificate::Digest;

@@ -1,8 +1,8 @@
 //! Views and the terms that they are grouped into.
 ghost use Prim.Native.Nat.{_<_, _^_};
 
-mod fault;
-mod views;
+pub mod fault;
+pub mod views;
 
 pub use fault::Fault;
 

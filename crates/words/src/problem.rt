@@ -9,7 +9,6 @@ use std::fmt;
 #[derive(Clone, Copy, Debug, PartialEq, Eq)]
 pub enum Problem {
     UnknownCommand,
-    NotAvailable,
     MissingWord,
     ExtraWord,
     NotANumber,
@@ -27,7 +26,6 @@ impl Problem {
     {
         match self {
             Problem::UnknownCommand => "unknown command",
-            Problem::NotAvailable => "command not available in this version",
             Problem::MissingWord => "a word is missing",
             Problem::ExtraWord => "a word too many",
             Problem::NotANumber => "not a decimal number",

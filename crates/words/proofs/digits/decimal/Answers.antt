@@ -4,16 +4,10 @@ use Rattle.words.specs.Numerals.{decimalOf}
 use Rattle.words.proofs.Numerals.{read-as}
 use Rattle.words.proofs.digits.decimal.Needs as need
 
-pub returns-then-is-empty : need.returns-then-is-empty
-unfolding decimalOf
-returns-then-is-empty c = sym (cond-true _ _ _ (sym (c .if-is-empty .ensures tt)))
-
 pub returns-then-not-plain : need.returns-then-not-plain
 unfolding decimalOf
-returns-then-not-plain c = sym (cond-false _ _ _ (sym (c .if-is-empty .ensures tt)) ∙ cond-false _ _ _ (sym (c .if-not-plain .ensures tt)))
+returns-then-not-plain c = sym (cond-false _ _ _ (sym (c .if-not-plain .ensures tt)))
 
 pub returns : need.returns
 unfolding decimalOf
-returns c =
-    let tested = cond-false _ _ _ (sym (c .if-is-empty .ensures tt)) ∙ cond-true _ _ _ (sym (c .if-not-plain .ensures tt)) in
-    c .ok-or .ensures .value ∙ read-as _ _ _ (c .value .ensures) ∙ sym tested
+returns c = c .ok-or .ensures .value ∙ read-as _ _ _ (c .value .ensures) ∙ sym (cond-true _ _ _ (sym (c .if-not-plain .ensures tt)))

@@ -5,9 +5,6 @@ use Rattle.words.proofs.problem.Problem.as_str.Needs as need
 pub returns-in-UnknownCommand : need.returns-in-UnknownCommand
 returns-in-UnknownCommand c = ap textOf (sym (c .in-UnknownCommand .is))
 
-pub returns-in-NotAvailable : need.returns-in-NotAvailable
-returns-in-NotAvailable c = ap textOf (sym (c .in-NotAvailable .is))
-
 pub returns-in-MissingWord : need.returns-in-MissingWord
 returns-in-MissingWord c = ap textOf (sym (c .in-MissingWord .is))
 
