@@ -1,0 +1,7 @@
+//! Examples that are run: the numbers of terms, records at the edge of each test, and replies to lines.
+#[cfg(test)]
+mod records;
+#[cfg(test)]
+mod replies;
+#[cfg(test)]
+mod views;
