@@ -5,8 +5,8 @@ use record::LENGTH;
 use record::Proof;
 use record::Proposal;
 use record::Round;
-use record::certificate::CertificatePartialEq;
 use record::certificate::CertificateDebug;
+use record::certificate::CertificatePartialEq;
 use record::fault::FaultDebug;
 use std::test::*;
 

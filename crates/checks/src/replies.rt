@@ -21,7 +21,10 @@ fn answers(rt: LibcRuntime) -> Result<(), Fail> {
         (b"covers 4 6 9", "no"),
         (b"covers 0 6 9", "refused 9 terms"),
         (b"read bytes -", "refused 1 record"),
-        (b"read finalization 18446744073709551615 epoch=1 parent=2 seats=3", "finalization epoch 1 view 18446744073709551615 parent 2"),
+        (
+            b"read finalization 18446744073709551615 epoch=1 parent=2 seats=3",
+            "finalization epoch 1 view 18446744073709551615 parent 2",
+        ),
         (b"read nullification 1 parent=1", "refused 4 record"),
     ];
     for (line, expected) in rows {
@@ -40,13 +43,25 @@ fn errors(rt: LibcRuntime) -> Result<(), Fail> {
         (b"term 4", "line 3: error: a word is missing"),
         (b"term 4 5 6", "line 3: error: a word too many"),
         (b"term 4294967296 5", "line 3: error: number out of range"),
-        (b"term 4 18446744073709551616", "line 3: error: number out of range"),
+        (
+            b"term 4 18446744073709551616",
+            "line 3: error: number out of range",
+        ),
         (b"term 04 5", "line 3: error: not a decimal number"),
         (b"term 4 5\r", "line 3: error: not a decimal number"),
         (b"read", "line 3: error: a word is missing"),
-        (b"read certificate 5", "line 3: error: not a record: expected 'bytes' or a kind"),
-        (b"read notarization 5 epoch=", "line 3: error: not a decimal number"),
-        (b"read notarization 5 parent=1 epoch=2", "line 3: error: a word too many"),
+        (
+            b"read certificate 5",
+            "line 3: error: not a record: expected 'bytes' or a kind",
+        ),
+        (
+            b"read notarization 5 epoch=",
+            "line 3: error: not a decimal number",
+        ),
+        (
+            b"read notarization 5 parent=1 epoch=2",
+            "line 3: error: a word too many",
+        ),
         (b"read bytes 0", "line 3: error: odd number of hex digits"),
         (b"read bytes 0A", "line 3: error: not lower-case hex digits"),
         (b"read bytes 00 00", "line 3: error: a word too many"),

@@ -6,7 +6,11 @@ use terms::fault::FaultDebug;
 /// The start, the end and the next start of a view's term.
 fn numbers(length: u32, view: u64) -> Result<(u64, u64, u64), Fault> {
     let length = TermLength::new(length)?;
-    Ok((length.term_start(view), length.term_end(view)?, length.next_term_start(view)?))
+    Ok((
+        length.term_start(view),
+        length.term_end(view)?,
+        length.next_term_start(view)?,
+    ))
 }
 
 #[test]
@@ -16,7 +20,12 @@ fn terms_of_four() -> Result<(), Fail> {
         (1, 1, 4, 5),
         (4, 1, 4, 5),
         (5, 5, 8, 9),
-        (4611686018427387904, 4611686018427387901, 4611686018427387904, 4611686018427387905),
+        (
+            4611686018427387904,
+            4611686018427387901,
+            4611686018427387904,
+            4611686018427387905,
+        ),
     ];
     for (view, start, end, next) in rows {
         check_eq(numbers(4, view)?, (start, end, next))?;
@@ -30,7 +39,14 @@ fn longest_and_shortest_terms() -> Result<(), Fail> {
     check_eq(numbers(4294967295, 1)?, (1, 4294967295, 4294967296))?;
     let last = 4611686018427387904;
     check_eq(numbers(1, last)?, (last, last, last + 1))?;
-    check_eq(numbers(4294967295, last)?, (4611686017353646081, 4611686021648613375, 4611686021648613376))
+    check_eq(
+        numbers(4294967295, last)?,
+        (
+            4611686017353646081,
+            4611686021648613375,
+            4611686021648613376,
+        ),
+    )
 }
 
 #[test]
