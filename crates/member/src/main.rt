@@ -1,25 +1,19 @@
 //! Runs one member of the register from a script on standard input, and prints a reply to each command.
+use script::Numbered;
 use script::Reply;
 use script::ReplyDisplay;
-use script::reply_to;
 use std::alloc::Global;
 use std::error::AnyError;
 use std::io;
 use std::io::BufWriter;
 use std::io::Read;
 use std::io::Write;
-use words::split_line;
 
 /// Writes the reply to each line of a text, and returns whether every line was a command.
 fn replies<W: Write>(heap: Global, text: &[u8], out: &mut W) -> io::Result<bool> {
-    let mut rest = text;
-    let mut number: u64 = 0;
+    let mut lines = Numbered::new(text);
     let mut clean = true;
-    while !rest.is_empty() {
-        let (line, after) = split_line(rest);
-        rest = after;
-        number = number.saturating_add(1);
-        let reply = reply_to(heap, number, line);
+    while let Some(reply) = lines.reply(heap) {
         if let Reply::Error { .. } = reply {
             clean = false;
         }
