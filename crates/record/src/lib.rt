@@ -16,6 +16,7 @@ pub use fault::Fault;
 pub use kind::Kind;
 pub use kind::KindDisplay;
 pub use stored::CertificateRecord;
+pub use stored::CertificateViewable;
 pub use stored::Record;
 pub use writing::frame;
 

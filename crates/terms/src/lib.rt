@@ -2,12 +2,10 @@
 ghost use Prim.Native.Nat.{_<_, _^_};
 
 pub mod fault;
-pub mod views;
+pub mod rules;
 
 pub use fault::Fault;
-
-/// A view: the number of a step of the register's agreement.
-pub type View = u64;
+pub use views::View;
 
 /// The highest view whose term's end is told.
 pub const LAST_VIEW: View = 1 << 62;

@@ -7,7 +7,7 @@ ghost use Rattle.terms.specs.Laws.{Own-term, Whole-term, Least-next, Start-cov
 use crate::Fault;
 use crate::LAST_VIEW;
 use crate::TermLength;
-use crate::View;
+use views::View;
 
 impl TermLength {
     /// A term length, which no term can do without.
