@@ -1,0 +1,3 @@
+pub mod Placing
+pub mod Rising
+pub mod Shifts
