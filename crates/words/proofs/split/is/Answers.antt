@@ -6,5 +6,5 @@ use Rattle.words.proofs.split.is.Needs as need
 
 pub returns : need.returns
 returns c =
-    let told = matches-decides _ _ _ (c .eq .ensures) in
+    let told = matches-decides (c .args .word .now) _ _ (c .eq .ensures) in
     same-from-decides _ _ told (sameBytes-decides _ _) ∙ ap (sameBytes (c .args .word .now)) (c .as-bytes .ensures .value)
