@@ -1,3 +1,4 @@
+pub mod Laws
 pub mod Placing
 pub mod Rising
 pub mod Shifts

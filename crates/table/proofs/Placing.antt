@@ -52,7 +52,8 @@ module _ {R : Type 0} (at : R → ℕ) where
   pub view-among : (rows : List R) (len k : ℕ) (d : R) → len ≤ length rows → k < len → getD (views at (take len rows)) k 0 ≡ at (getD rows k d)
   view-among rows len k d f h = view-of (take len rows) k d (rw (length-take-le len rows f) h) ∙ ap at (getD-take len rows k d h)
 
-  rises : (rs : List R) → Ascending at rs → (i j : ℕ) → i ≤ j → j < length rs → getD (views at rs) i 0 ≤ getD (views at rs) j 0
+  -- a later row lies no lower
+  pub rises : (rs : List R) → Ascending at rs → (i j : ℕ) → i ≤ j → j < length rs → getD (views at rs) i 0 ≤ getD (views at rs) j 0
   rises rs asc i j le h = elim (cases-eq i j) [ inl e ↦ rw e (omega arith) | inr ne ↦ omega (arith, asc i j (omega arith) h) ]
 
   module _ (p : ℕ → Bool) (law : (u v : ℕ) → u ≤ v → p u ≡ true → p v ≡ true) (rs : List R) (asc : Ascending at rs) where
@@ -86,6 +87,7 @@ module _ {R : Type 0} (at : R → ℕ) where
       ]
 
       pub lookup-absent : lookup at v rs ≡ None
+      unfolding lookup
       lookup-absent = go rs absent
         where
           go : (xs : List R) → ((k : ℕ) → k < length xs → getD (views at xs) k 0 ≡ v → ⊥) → lookup at v xs ≡ None
@@ -93,6 +95,7 @@ module _ {R : Type 0} (at : R → ℕ) where
           go (x ∷ xs) n = cond-false (eqb (at x) v) (Some x) (lookup at v xs) (ne-eqb (at x) v (n 0 (omega arith))) ∙ go xs (λ k l. n (suc k) (omega arith))
 
       pub put-absent : (r : R) → at r ≡ v → inserted rs i r ≡ with-row at r rs
+      unfolding with-row
       put-absent r e =
           let b = ap (λ n. below at n rs) e ∙ below-is in
           let o : beyond at v rs ≡ drop i rs = kept-back (λ s. ltb v (at s)) rs i
@@ -102,11 +105,13 @@ module _ {R : Type 0} (at : R → ℕ) where
           λ j. sym b j ++ r ∷ sym a j
 
       pub without-absent : without at v rs ≡ rs
+      unfolding without
       without-absent = kept-all (λ r. not (eqb (at r) v)) rs (λ k d l. let e = view-of rs k d l in not-from-false (eqb (at (getD rs k d)) v) (ne-eqb (at (getD rs k d)) v (λ s. absent k l (e ∙ s))))
 
     -- a row of the view stands at its place
     module _ (asc : Ascending at rs) (within : i < length rs) (is : getD (views at rs) i 0 ≡ v) where
       pub lookup-present : (x : R) → x ≡ getD rs i x → lookup at v rs ≡ Some x
+      unfolding lookup
       lookup-present x e = go rs i lower within e (sym (view-of rs i x within) ∙ is)
         where
           go : (xs : List R) (j : ℕ) → ((k : ℕ) → k < j → getD (views at xs) k 0 < v) → j < length xs → x ≡ getD xs j x → at (getD xs j x) ≡ v → lookup at v xs ≡ Some x
@@ -115,6 +120,7 @@ module _ {R : Type 0} (at : R → ℕ) where
           go (y ∷ xs) (suc j) b l f w = cond-false (eqb (at y) v) (Some y) (lookup at v xs) (ne-eqb (at y) v (λ s. omega (arith, b 0 (omega arith)))) ∙ go xs j (λ k h. b (suc k) (omega arith)) (omega arith) f w
 
       pub set-present : (r : R) → at r ≡ v → set rs i r ≡ with-row at r rs
+      unfolding with-row
       set-present r e =
           let b = ap (λ n. below at n rs) e ∙ below-is in
           let o : beyond at v rs ≡ drop (suc i) rs = kept-back (λ s. ltb v (at s)) rs (suc i)
@@ -124,12 +130,14 @@ module _ {R : Type 0} (at : R → ℕ) where
           set-split rs i r within ∙ (λ j. sym b j ++ r ∷ sym a j)
 
       pub cut-present : removed rs i ≡ without at v rs
+      unfolding without
       cut-present = sym (kept-but (λ r. not (eqb (at r) v)) rs i within
           (λ k d n l. let e = view-of rs k d l in not-from-false (eqb (at (getD rs k d)) v) (ne-eqb (at (getD rs k d)) v (λ s. elim (cases-lt k i) [ inl h ↦ omega (arith, lower k h) | inr h ↦ omega (arith, asc i k (omega arith) l) ])))
           (λ d. not-from-true (eqb (at (getD rs i d)) v) (eq-eqb (at (getD rs i d)) v (sym (view-of rs i d within) ∙ is))))
 
   -- what an order keeps stands from the first that it keeps
   pub kept-is : (p : ℕ → Bool) (rs : List R) (i : ℕ) → Parts at p rs i → kept at p rs ≡ drop i rs
+  unfolding kept
   kept-is p rs i q =
       kept-back (λ r. p (at r)) rs i
       (λ k d h l. sym (ap p (view-of rs k d l)) ∙ q .before k h)
@@ -150,9 +158,11 @@ module _ {R : Type 0} (at : R → ℕ) where
         (λ k d h l. let e = view-of rs k d l in lt-leb (at (getD rs k d)) v (omega (arith, ltb-true v _ (q .after k h l))))
 
     pub highest-none : i ≡ 0 → None ≡ highest at v rs
+    unfolding highest
     highest-none z = sym (ap lastOf (front-is ∙ ap (λ n. take n rs) z))
 
     pub highest-some : (x : R) → 0 < i → x ≡ getD rs (i - 1) x → Some x ≡ highest at v rs
+    unfolding highest
     highest-some x h e =
         let n : i ≡ suc (i - 1) = omega arith in
         sym (ap lastOf (front-is ∙ ap (λ k. take k rs) n) ∙ last-taken rs (i - 1) x (omega (arith, q .within)) e)

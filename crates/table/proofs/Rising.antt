@@ -1,24 +1,24 @@
 -- Rows still ascend after each change.
 use mathlib.Core.Path.{_≡_, refl, sym, subst}
 use mathlib.Core.List.{List, [], _∷_, _++_}
-use mathlib.Core.Bool.{Bool, true}
+use mathlib.Core.Bool.{Bool, true, not}
 use Prim.Native.Nat.{ℕ, zero, suc, _<_}
 use native.Mathlib.Omega.{arith}
-use lib.Dec.{ltb}
+use lib.Dec.{eqb, ltb}
 use lib.ListN.{length, getD}
 use Rattle.std.specs.shelf.Lists.{All, kept-by}
 use Rattle.std.proofs.shelf.Elements.{all-from-every, all-getD, all-append, all-weaker, all-kept-by, kept-by-passes}
 use Rattle.std.proofs.shelf.Tests.{cond-both, ltb-true}
-use Rattle.table.specs.Rows.{views, Ascending, below, beyond, with-row}
+use Rattle.table.specs.Rows.{views, Ascending, below, beyond, with-row, without, kept}
 use Rattle.table.proofs.Placing.{view-of}
 
 module _ {R : Type 0} (at : R → ℕ) where
   -- each row lies below all after it
-  abbrev Up : List R → Type 0
+  abbrev pub Up : List R → Type 0
   Up [] = Unit {0}
   Up (r ∷ rs) = All (λ s. at r < at s) rs × Up rs
 
-  up-from : (rs : List R) → Ascending at rs → Up rs
+  pub up-from : (rs : List R) → Ascending at rs → Up rs
   up-from [] asc = tt
   up-from (r ∷ rs) asc = (
     all-from-every (λ s. at r < at s) rs (λ k d _ h. omega (arith, asc 0 (suc k) (omega arith) (omega arith), view-of at rs k d h)),
@@ -31,7 +31,7 @@ module _ {R : Type 0} (at : R → ℕ) where
   ascending-from (r ∷ rs) u zero (suc j) ij jl = omega (arith, all-getD (λ s. at r < at s) rs j r (omega arith) (u .0), view-of at rs j r (omega arith))
   ascending-from (r ∷ rs) u (suc i) (suc j) ij jl = ascending-from rs (u .1) i j (omega arith) (omega arith)
 
-  up-kept : (p : R → Bool) (rs : List R) → Up rs → Up (kept-by p rs)
+  pub up-kept : (p : R → Bool) (rs : List R) → Up rs → Up (kept-by p rs)
   up-kept p [] u = tt
   up-kept p (r ∷ rs) u = cond-both (p r) (r ∷ kept-by p rs) (kept-by p rs) Up (λ _. (all-kept-by p (λ s. at r < at s) rs (u .0), up-kept p rs (u .1))) (λ _. up-kept p rs (u .1))
 
@@ -42,10 +42,19 @@ module _ {R : Type 0} (at : R → ℕ) where
     up-around xs ys r (u .1) w (a .1) b,
   )
 
-  pub kept-rises : (p : R → Bool) (rs : List R) → Ascending at rs → Ascending at (kept-by p rs)
-  kept-rises p rs asc = ascending-from (kept-by p rs) (up-kept p rs (up-from rs asc))
+  kept-by-rises : (p : R → Bool) (rs : List R) → Ascending at rs → Ascending at (kept-by p rs)
+  kept-by-rises p rs asc = ascending-from (kept-by p rs) (up-kept p rs (up-from rs asc))
+
+  pub kept-rises : (p : ℕ → Bool) (rs : List R) → Ascending at rs → Ascending at (kept at p rs)
+  unfolding kept
+  kept-rises p rs asc = kept-by-rises (λ r. p (at r)) rs asc
+
+  pub without-rises : (v : ℕ) (rs : List R) → Ascending at rs → Ascending at (without at v rs)
+  unfolding without
+  without-rises v rs asc = kept-by-rises (λ r. not (eqb (at r) v)) rs asc
 
   pub with-row-rises : (r : R) (rs : List R) → Ascending at rs → Ascending at (with-row at r rs)
+  unfolding with-row
   with-row-rises r rs asc =
       let u = up-from rs asc in
       ascending-from (with-row at r rs) (up-around (below at (at r) rs) (beyond at (at r) rs) r (up-kept (λ s. ltb (at s) (at r)) rs u) (up-kept (λ s. ltb (at r) (at s)) rs u)

@@ -26,7 +26,7 @@ module _ {R : Type 0} (at : R → ℕ) where
   Ascending rs = (i j : ℕ) → i < j → j < length rs → getD (views rs) i 0 < getD (views rs) j 0
 
   -- the row of a view, if there is one
-  abbrev pub lookup : ℕ → List R → Option R
+  unfoldable pub lookup : ℕ → List R → Option R
   lookup v [] = None
   lookup v (r ∷ rs) = cond (eqb (at r) v) (Some r) (lookup v rs)
 
@@ -34,11 +34,11 @@ module _ {R : Type 0} (at : R → ℕ) where
   holds v rs = isSome (lookup v rs)
 
   -- the highest row at or below a view, if there is one
-  abbrev pub highest : ℕ → List R → Option R
+  unfoldable pub highest : ℕ → List R → Option R
   highest v rs = lastOf (kept-by (λ r. leb (at r) v) rs)
 
   -- the rows of other views
-  abbrev pub without : ℕ → List R → List R
+  unfoldable pub without : ℕ → List R → List R
   without v rs = kept-by (λ r. not (eqb (at r) v)) rs
 
   -- the rows below a view, and those above it
@@ -49,7 +49,7 @@ module _ {R : Type 0} (at : R → ℕ) where
   beyond v rs = kept-by (λ r. ltb v (at r)) rs
 
   -- the rows with this one at its place, where it replaces one of the same view
-  abbrev pub with-row : R → List R → List R
+  unfoldable pub with-row : R → List R → List R
   with-row r rs = below (at r) rs ++ r ∷ beyond (at r) rs
 
   -- whether `cap` places have room for a row: it replaces one, or a place is free
@@ -57,7 +57,7 @@ module _ {R : Type 0} (at : R → ℕ) where
   has-room cap r rs = holds (at r) rs || ltb (length rs) cap
 
   -- the rows that an order keeps
-  abbrev pub kept : (ℕ → Bool) → List R → List R
+  unfoldable pub kept : (ℕ → Bool) → List R → List R
   kept p rs = kept-by (λ r. p (at r)) rs
 
   -- a place that parts the rows: those before it are not kept, and the others are

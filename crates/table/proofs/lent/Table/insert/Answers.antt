@@ -1,8 +1,11 @@
 use borrow.Author.Needs.{needs}
 use mathlib.Core.Path.{_≡_, sym, ap, subst, _∙_}
+use mathlib.Core.Bool.{true}
 use lib.ListN.{length, take}
-use Rattle.table.specs.Rows.{Ascending, with-row, has-room}
+use Rattle.table.specs.Rows.{Ascending, lookup, with-row, has-room}
 use Rattle.table.specs.Tables.{entries, capacity, Rises}
+use Rattle.table.specs.Laws.{One-more, Counted}
+use Rattle.table.proofs.Laws.{one-more, counted}
 use Rattle.table.proofs.Rising.{with-row-rises}
 use Rattle.table.proofs.lent.Table.insert.Needs as need
 
@@ -16,6 +19,8 @@ returns-in-Some g c =
     record {
       room = λ up. told .room (subst (Ascending at) (sym same) up) ∙ ap (has-room at (capacity (c .args .self .now)) (c .args .row)) same;
       rows = more;
+      one-more = λ up. subst (One-more at true (c .args .row) old) (sym (more up)) (one-more at (c .args .row) old);
+      counted = λ up. subst (Counted at true (c .args .row) old) (sym (more up)) (counted at (c .args .row) old up);
       cap = search needs;
       rises = λ up. subst (Ascending at) (sym (more up)) (with-row-rises at (c .args .row) old up);
     }
@@ -29,6 +34,8 @@ returns-in-None g c =
     record {
       room = λ up. told .room (subst (Ascending at) (sym same) up) ∙ ap (has-room at (capacity (c .args .self .now)) (c .args .row)) same;
       rows = λ up. still;
+      one-more = λ up v. ap (lookup at v) still;
+      counted = λ up. ap length still;
       cap = ap length (told .rows);
       rises = λ up. subst (Ascending at) (sym still) up;
     }
