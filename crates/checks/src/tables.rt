@@ -1,3 +1,4 @@
+use cover::covering;
 use std::test::*;
 use table::From;
 use table::FromOrder;
@@ -8,6 +9,8 @@ use table::PastOrder;
 use table::Table;
 use table::mark::MarkDebug;
 use table::mark::MarkPartialEq;
+use terms::TermLength;
+use terms::fault::FaultDebug;
 
 /// The views of a table, four at most; 0 where it has no row.
 fn views(table: &Table<Mark>) -> [u64; 4] {
@@ -50,4 +53,21 @@ fn a_full_table_takes_no_new_view() -> Result<(), Fail> {
     check_eq(views(&table), [4, 0, 0, 0])?;
     table.retire(&Past(u64::MAX));
     check_eq(table.len(), 0)
+}
+
+#[test]
+fn the_highest_that_covers() -> Result<(), Fail> {
+    let mut rows = [Mark { view: 0 }; 3];
+    let mut table = Table::new(&mut rows);
+    for view in [13u64, 5, 6] {
+        check(table.insert(Mark { view }))?;
+    }
+    let length = TermLength::new(4)?;
+    for (view, cover) in [(5u64, 5u64), (8, 6), (13, 13), (16, 13)] {
+        check_eq(covering(&table, length, view), Some(Mark { view: cover }))?;
+    }
+    for view in [0u64, 4, 9, 12, 17, u64::MAX] {
+        check_eq(covering(&table, length, view), None)?;
+    }
+    Ok(())
 }

@@ -9,7 +9,7 @@ use lib.Dec.{eqb, leb}
 use Rattle.std.specs.Orderings.{Decides}
 use Rattle.std.proofs.shelf.Tests.{eq-eqb, ne-eqb, eqb-true, le-leb, leb-true, and-parts, and-from, cases-eq, cases-lt, cond-false}
 use Rattle.terms.specs.Terms.{start, end, next, is-start, same-term, covering}
-use Rattle.terms.specs.Laws.{Own-term, Rising, Whole-term, Same-start, To-the-end, Least-next, Start-covered}
+use Rattle.terms.specs.Laws.{Own-term, Rising, Whole-term, Same-start, To-the-end, Covers-between, Least-next, Start-covered}
 
 -- view 0 is a term of its own
 pub start-0 : (L : ℕ) → start L 0 ≡ 0
@@ -142,3 +142,6 @@ module _ (L : ℕ) (positive : 0 < L) where
           | inr n ↦ omega (arith, whole-term u (omega arith), whole-term v (omega arith))
         ],
       )
+
+  pub covers-between : Covers-between L
+  covers-between u w v low high t = to-the-end w v .1 (high, omega (arith, to-the-end u v .0 t .1, rising u w low .1))

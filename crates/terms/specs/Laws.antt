@@ -25,6 +25,10 @@ Same-start L = (u v : ℕ) → Decides (same-term L u v) ((start L u ≤ v) × (
 abbrev pub To-the-end : ℕ → Type 0
 To-the-end L = (u v : ℕ) → Decides (covering L u v) ((u ≤ v) × (v ≤ end L u))
 
+-- where a nullification covers a view, so does each between the two
+abbrev pub Covers-between : ℕ → Type 0
+Covers-between L = (u w v : ℕ) → u ≤ w → w ≤ v → covering L u v ≡ true → covering L w v ≡ true
+
 -- the next term start is one, and the least above the view
 abbrev pub Least-next : ℕ → Type 0
 Least-next L = (v : ℕ) → (is-start L (next L v) ≡ true) × (v < next L v) × ((w : ℕ) → v < w → is-start L w ≡ true → next L v ≤ w)

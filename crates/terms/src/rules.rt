@@ -3,7 +3,7 @@ ghost use Prim.Native.Nat.{_<_, _≤_, _^_};
 ghost use Rattle.std.specs.Results.{Cases};
 ghost use Rattle.terms.specs.declared.fault.Fault.the-variants.{ZeroLength, ViewTooHigh};
 ghost use Rattle.terms.specs.Terms.{views, start, end, next, is-start, same-term, covering};
-ghost use Rattle.terms.specs.Laws.{Own-term, Whole-term, Least-next, Start-covered, Same-start, Rising, To-the-end};
+ghost use Rattle.terms.specs.Laws.{Own-term, Whole-term, Least-next, Start-covered, Same-start, Rising, To-the-end, Covers-between};
 use crate::Fault;
 use crate::LAST_VIEW;
 use crate::TermLength;
@@ -82,6 +82,7 @@ impl TermLength {
     pub const fn covers(self, nullified: View, view: View) -> bool
         ensures value { λ r. ⌜ r ≡ covering (views self) nullified view ⌝ }
         ensures to_the_end { λ _. ⌜ To-the-end (views self) ⌝ }
+        ensures covers_between { λ _. ⌜ Covers-between (views self) ⌝ }
     {
         nullified <= view && self.same_term(nullified, view)
     }
