@@ -1,5 +1,7 @@
 //! Examples that are run: the numbers of terms, tables, records at the edge of each test, and replies
 //! to lines.
+#![tactic(auto)]
+
 #[cfg(test)]
 mod records;
 #[cfg(test)]

@@ -1,4 +1,6 @@
 //! Which of a table's nullifications covers a view.
+#![tactic(auto)]
+
 ghost use Rattle.std.specs.Prelude.{◌≡◌, true, List, is_some};
 ghost use Rattle.table.specs.Tables.{entries, Rises};
 ghost use Rattle.terms.specs.Terms.{views as views_of};

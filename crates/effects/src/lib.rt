@@ -1,4 +1,6 @@
 //! What a host must do for its asks after a change, and the list that it lends for this.
+#![tactic(auto)]
+
 pub mod effect;
 mod list;
 pub mod listed;

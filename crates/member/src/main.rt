@@ -1,4 +1,6 @@
 //! Runs one member of the register from a script on standard input, and prints a reply to each command.
+#![tactic(auto)]
+
 use anyhow::anyhow;
 use script::{Numbered, Reply};
 use std::alloc::Global;

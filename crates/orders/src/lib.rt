@@ -1,4 +1,6 @@
 //! What a script asks of a member.
+#![tactic(auto)]
+
 pub mod naming;
 pub mod order;
 pub mod reading;

@@ -1,4 +1,6 @@
 //! Which views a member must still ask its peers for.
+#![tactic(auto)]
+
 ghost use Rattle.std.specs.Prelude.{◌≡◌, ℕ, ◌+◌, ◌^◌, ◌<◌, ◌≤◌, map, length, IfOk, MatchResult, nat_lt};
 ghost use Rattle.cover.specs.Covers.{covered};
 ghost use Rattle.effects.specs.Lists.{entries as listed, places, Added, Filled};

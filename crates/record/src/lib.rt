@@ -1,4 +1,6 @@
 //! The certificate record: one certificate in 96 bytes.
+#![tactic(auto)]
+
 pub mod certificate;
 pub mod fault;
 pub mod kind;

@@ -1,4 +1,6 @@
 //! A record as a script writes it: `bytes HEX`, or `KIND VIEW [epoch=E] [parent=P] [seats=MASK]`.
+#![tactic(auto)]
+
 pub mod options;
 pub mod parts;
 pub mod texts;

@@ -1,4 +1,6 @@
 //! The script language of the program `member`: one reply for each line.
+#![tactic(auto)]
+
 pub mod answer;
 pub mod command;
 pub mod lines;

@@ -1,4 +1,6 @@
 //! One member as a script runs it: its making, and what it answers to each order.
+#![tactic(auto)]
+
 pub mod admitting;
 pub mod carrying;
 

@@ -1,4 +1,6 @@
 //! One place for one value, in memory that a host lends.
+#![tactic(auto)]
+
 ghost use Rattle.std.specs.Prelude.{◌≡◌, ◌<◌, length, drop, if◌then◌else◌, Some, None, nat_lt};
 ghost use Rattle.slot.specs.Slots.{first_of, held, places};
 

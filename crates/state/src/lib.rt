@@ -1,5 +1,6 @@
 //! The state of one member: what it has recorded, and the promise that it keeps nothing that finalization has ruled
 //! out and leaves no gap unasked.
+#![tactic(auto)]
 
 mod calls;
 pub mod fault;

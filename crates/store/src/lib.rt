@@ -1,4 +1,6 @@
 //! What a member has recorded, in memory that the host lends, and each change to it.
+#![tactic(auto)]
+
 mod calls;
 pub mod held;
 mod reads;

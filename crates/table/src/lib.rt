@@ -1,4 +1,6 @@
 //! Rows in ascending order of their views, in memory that a host lends.
+#![tactic(auto)]
+
 pub mod lent;
 pub mod mark;
 mod moves;

@@ -1,4 +1,6 @@
 //! Views and the terms that they are grouped into.
+#![tactic(auto)]
+
 ghost use Rattle.std.specs.Prelude.{◌^◌, ◌<◌};
 
 pub mod fault;

@@ -1,4 +1,6 @@
 //! A view, and what tells one.
+#![tactic(auto)]
+
 ghost use Rattle.std.specs.Prelude.{◌≡◌, ℕ};
 
 /// A view: the number of a step of the register's agreement.

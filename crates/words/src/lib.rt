@@ -1,4 +1,6 @@
 //! The words of a script's line: comments, words, decimal numbers and hex digits.
+#![tactic(auto)]
+
 pub mod class;
 pub mod decode;
 pub mod digits;

@@ -7,14 +7,14 @@ use Rattle.cover.specs.Covers.{if_covering, cover, HighestCover}
 use Rattle.cover.proofs.Covers.{nothing_below, this_covers, another_term, by_some_row, covered_if_found}
 use Rattle.cover.proofs.covering.Goals as goal
 
-pub returns-in-default : goal.returns-in-default
+pub returns-in_default : goal.returns-in_default
 unfolding cover
-returns-in-default g c =
+returns-in_default g c =
     let at = g.R.Viewable.viewed in
     let L = views c.args.length in
     let v = c.args.view in
     let rs = entries c.args.nullifications.now in
-    let told = c.in-default.ensures in
+    let told = c.in_default.ensures in
     let highest : Rises at c.args.nullifications.now → HighestCover at L v rs None = λ up. nothing_below at L v rs (to_the_end L c.args.length.positive) (told.nearest up) in
     record {
       value = λ up. ap (if_covering at L v) (told.value up);

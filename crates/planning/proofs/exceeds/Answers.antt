@@ -9,12 +9,12 @@ use Rattle.planning.proofs.Gaps.{gaps_none, gaps_covered, gaps_open, gaps_exactl
 use Rattle.planning.proofs.exceeds.Goals as goal
 use Rattle.planning.proofs.exceeds.Goals.{then-is-none+else-found-most, else-is-none}
 
-pub returns-then-current-gt-LAST-VIEW : goal.returns-then-current-gt-LAST-VIEW
-returns-then-current-gt-LAST-VIEW g c =
-    let L = views c.args.term-length in
-    let positive = c.args.term-length.positive in
+pub returns-then-current-gt-LAST_VIEW : goal.returns-then-current-gt-LAST_VIEW
+returns-then-current-gt-LAST_VIEW g c =
+    let L = views c.args.term_length in
+    let positive = c.args.term_length.positive in
     record {
-      refused = (c.if-current-gt-LAST-VIEW.true, refl);
+      refused = (c.if-current-gt-LAST_VIEW.true, refl);
       value = λ up. tt;
       gaps_exactly = gaps_exactly L positive;
       no_growth = no_growth L positive;
@@ -24,15 +24,15 @@ returns-then-current-gt-LAST-VIEW g c =
 
 pub returns-then-found-most : goal.returns-then-found-most
 returns-then-found-most g c =
-    let L = views c.args.term-length in
-    let positive = c.args.term-length.positive in
+    let L = views c.args.term_length in
+    let positive = c.args.term_length.positive in
     let cov : ℕ → Bool = λ v. covered g.R.Viewable.viewed L v (entries c.args.nullifications.now) in
     let anchor = c.loop-anchor.anchor in
     let current = c.args.current in
     let all = length (gaps L cov c.args.low current) in
     record {
-      refused = c.if-current-gt-LAST-VIEW.false;
-      value = λ up. let f : cov anchor ≡ false = sym (c.covering.ensures.covered up) ∙ c.if-is-none.ensures in
+      refused = c.if-current-gt-LAST_VIEW.false;
+      value = λ up. let f : cov anchor ≡ false = sym (c.covering.ensures.covered up) ∙ c.if-is_none.ensures in
           let one = ap length (gaps_open L positive cov anchor current c.loop-anchor-test.true f) in
           let sum = c.loop-anchor.invariant.1 up in
           sym (lt-ltb c.args.most all (omega (arith, c.if-found-most.true)));
@@ -44,29 +44,29 @@ returns-then-found-most g c =
 
 pub loop-anchor-smaller : goal.loop-anchor-smaller
 loop-anchor-smaller g c =
-    let later = (least_next (views c.args.term-length) c.args.term-length.positive c.loop-anchor.anchor).1 in
+    let later = (least_next (views c.args.term_length) c.args.term_length.positive c.loop-anchor.anchor).1 in
     omega (arith, c.following-anchor.ensures, c.loop-anchor-test.true)
 
 pub loop-anchor-preserved : goal.loop-anchor-preserved
 loop-anchor-preserved g c =
-    let L = views c.args.term-length in
-    let positive = c.args.term-length.positive in
+    let L = views c.args.term_length in
+    let positive = c.args.term_length.positive in
     let cov : ℕ → Bool = λ v. covered g.R.Viewable.viewed L v (entries c.args.nullifications.now) in
     let anchor = c.loop-anchor.anchor in
     let current = c.args.current in
     let few = c.loop-anchor.invariant.0 in
     let within = c.loop-anchor-test.true in
     let moved = ap (λ v. length (gaps L cov v current)) c.following-anchor.ensures in
-    elim c.if-is-none.branch [
+    elim c.if-is_none.branch [
       | then-is-none+else-found-most w ↦ let found = w.found-is in (
         omega (arith, w.if-found-most.false),
-        λ up. let f : cov anchor ≡ false = sym (c.covering.ensures.covered up) ∙ c.is-none.ensures ∙ ap not w.if-is-none.true in
+        λ up. let f : cov anchor ≡ false = sym (c.covering.ensures.covered up) ∙ c.is_none.ensures ∙ ap not w.if-is_none.true in
             let one = ap length (gaps_open L positive cov anchor current within f) in
             omega (arith, c.loop-anchor.invariant.1 up),
       )
       | else-is-none w ↦ let found = w.found-is in (
         omega arith,
-        λ up. let t : cov anchor ≡ true = sym (c.covering.ensures.covered up) ∙ c.is-none.ensures ∙ ap not w.if-is-none.false in
+        λ up. let t : cov anchor ≡ true = sym (c.covering.ensures.covered up) ∙ c.is_none.ensures ∙ ap not w.if-is_none.false in
             let same = ap length (gaps_covered L positive cov anchor current within t) in
             omega (arith, c.loop-anchor.invariant.1 up),
       )
@@ -74,13 +74,13 @@ loop-anchor-preserved g c =
 
 pub returns : goal.returns
 returns g c =
-    let L = views c.args.term-length in
-    let positive = c.args.term-length.positive in
+    let L = views c.args.term_length in
+    let positive = c.args.term_length.positive in
     let cov : ℕ → Bool = λ v. covered g.R.Viewable.viewed L v (entries c.args.nullifications.now) in
     let current = c.args.current in
     let all = length (gaps L cov c.args.low current) in
     record {
-      refused = c.if-current-gt-LAST-VIEW.false;
+      refused = c.if-current-gt-LAST_VIEW.false;
       value = λ up. let none = ap length (gaps_none L positive cov c.loop-anchor.anchor current c.loop-anchor-test.false) in
           let sum = c.loop-anchor.invariant.1 up in
           sym (le-ltb c.args.most all (omega (arith, c.loop-anchor.invariant.0)));

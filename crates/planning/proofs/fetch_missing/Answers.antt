@@ -9,14 +9,14 @@ use Rattle.planning.proofs.Fetching.{Fetched, none_fetched, fetched_all, none_le
 use Rattle.planning.proofs.fetch_missing.Goals as goal
 use Rattle.planning.proofs.fetch_missing.Goals.{then-is-none, else-is-none}
 
-pub returns-then-current-gt-LAST-VIEW : goal.returns-then-current-gt-LAST-VIEW
-returns-then-current-gt-LAST-VIEW g c =
-    let L = views c.args.term-length in
-    let positive = c.args.term-length.positive in
+pub returns-then-current-gt-LAST_VIEW : goal.returns-then-current-gt-LAST_VIEW
+returns-then-current-gt-LAST_VIEW g c =
+    let L = views c.args.term_length in
+    let positive = c.args.term_length.positive in
     record {
-      lands = (c.if-current-gt-LAST-VIEW.true, refl, refl);
-      added = λ up low room. absurd (omega (arith, c.if-current-gt-LAST-VIEW.true));
-      filled = λ up low. absurd (omega (arith, c.if-current-gt-LAST-VIEW.true));
+      lands = (c.if-current-gt-LAST_VIEW.true, refl, refl);
+      added = λ up low room. absurd (omega (arith, c.if-current-gt-LAST_VIEW.true));
+      filled = λ up low. absurd (omega (arith, c.if-current-gt-LAST_VIEW.true));
       cursor_lands = cursor_lands L positive;
       no_anchor_skipped = no_anchor_skipped L positive;
       only_anchors = only_anchors L positive;
@@ -24,13 +24,13 @@ returns-then-current-gt-LAST-VIEW g c =
 
 pub loop-anchor-smaller : goal.loop-anchor-smaller
 loop-anchor-smaller g c =
-    let later = (least_next (views c.args.term-length) c.args.term-length.positive c.loop-anchor.anchor).1 in
+    let later = (least_next (views c.args.term_length) c.args.term_length.positive c.loop-anchor.anchor).1 in
     omega (arith, c.following-anchor.ensures, c.loop-anchor-test.true)
 
 pub loop-anchor-preserved : goal.loop-anchor-preserved
 loop-anchor-preserved g c =
-    let L = views c.args.term-length in
-    let positive = c.args.term-length.positive in
+    let L = views c.args.term_length in
+    let positive = c.args.term_length.positive in
     let cov : ℕ → Bool = λ v. covered g.R.Viewable.viewed L v (entries c.args.nullifications.now) in
     let anchor = c.loop-anchor.anchor in
     let current = c.args.current in
@@ -41,31 +41,31 @@ loop-anchor-preserved g c =
     let within = c.loop-anchor-test.true in
     let on = c.following-anchor.ensures in (
       ap (λ v. landing L v current) on ∙ lands_on L positive anchor current within ∙ c.loop-anchor.invariant.0,
-      λ up. subst (λ v. Fetched L cov low current cause v before c.if-is-none.effects) (sym on) (elim c.if-is-none.branch [
-        | then-is-none w ↦ let f : cov anchor ≡ false = sym (c.covering.ensures.covered up) ∙ c.is-none.ensures ∙ ap not w.if-is-none.true in
+      λ up. subst (λ v. Fetched L cov low current cause v before c.if-is_none.effects) (sym on) (elim c.if-is_none.branch [
+        | then-is-none w ↦ let f : cov anchor ≡ false = sym (c.covering.ensures.covered up) ∙ c.is_none.ensures ∙ ap not w.if-is_none.true in
             subst (λ e. Fetched L cov low current cause (next L anchor) before e) (sym w.effects-is) (past_open L positive cov low current cause anchor before here w.push.new.self within f w.push.ensures.filled (c.loop-anchor.invariant.1 up))
-        | else-is-none w ↦ let t : cov anchor ≡ true = sym (c.covering.ensures.covered up) ∙ c.is-none.ensures ∙ ap not w.if-is-none.false in
+        | else-is-none w ↦ let t : cov anchor ≡ true = sym (c.covering.ensures.covered up) ∙ c.is_none.ensures ∙ ap not w.if-is_none.false in
             subst (λ e. Fetched L cov low current cause (next L anchor) before e) (sym w.effects-is) (past_covered L positive cov low current cause anchor before here within t (c.loop-anchor.invariant.1 up))
       ]),
     )
 
 pub loop-anchor-init : goal.loop-anchor-init
 loop-anchor-init g c =
-    let L = views c.args.term-length in
+    let L = views c.args.term_length in
     let cov : ℕ → Bool = λ v. covered g.R.Viewable.viewed L v (entries c.args.nullifications.now) in
-    (refl, λ up. none_fetched L c.args.term-length.positive cov c.args.low c.args.current c.args.cause c.args.effects.now)
+    (refl, λ up. none_fetched L c.args.term_length.positive cov c.args.low c.args.current c.args.cause c.args.effects.now)
 
 pub returns : goal.returns
 returns g c =
-    let L = views c.args.term-length in
-    let positive = c.args.term-length.positive in
+    let L = views c.args.term_length in
+    let positive = c.args.term_length.positive in
     let cov : ℕ → Bool = λ v. covered g.R.Viewable.viewed L v (entries c.args.nullifications.now) in
     let anchor = c.loop-anchor.anchor in
     let current = c.args.current in
     let past = c.loop-anchor-test.false in
     let filled = λ (up : Rises g.R.Viewable.viewed c.args.nullifications.now). fetched_all L positive cov c.args.low current c.args.cause anchor c.args.effects.now c.loop-anchor.effects past (c.loop-anchor.invariant.1 up) in
     record {
-      lands = (c.if-current-gt-LAST-VIEW.false, sym (lands_here L positive anchor current past) ∙ c.loop-anchor.invariant.0);
+      lands = (c.if-current-gt-LAST_VIEW.false, sym (lands_here L positive anchor current past) ∙ c.loop-anchor.invariant.0);
       added = λ up low room. none_left_out L positive cov c.args.low current c.args.cause c.args.effects.now c.loop-anchor.effects room (filled up);
       filled = λ up low. filled up;
       cursor_lands = cursor_lands L positive;

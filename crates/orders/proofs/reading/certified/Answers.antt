@@ -7,28 +7,28 @@ use Rattle.words.specs.Numerals.{number_of, short_of}
 use Rattle.words.proofs.Binds.{go_on, stopped, exit_is}
 use Rattle.orders.proofs.reading.certified.Goals as goal
 
-pub returns-in-err-success : goal.returns-in-err-success
+pub returns-in_err-success : goal.returns-in_err-success
 unfolding certified_of
-returns-in-err-success c =
+returns-in_err-success c =
     let bs = c.args.text.now in
-    let k = c.in-err-success.ensures in
-    let m1 : verdict_of (word_at 0 bs) ≡ Err c.in-err-success.field-0.0 = cc in
-    rw (exit_is _ _ c.from-residual.ensures.1) (inr (stopped _ m1))
+    let k = c.in_err-success.ensures in
+    let m1 : verdict_of (word_at 0 bs) ≡ Err c.in_err-success.field-0.0 = cc in
+    rw (exit_is _ _ c.from_residual.ensures.1) (inr (stopped _ m1))
 
-pub returns-in-err-bytes : goal.returns-in-err-bytes
+pub returns-in_err-bytes : goal.returns-in_err-bytes
 unfolding certified_of
-returns-in-err-bytes c =
+returns-in_err-bytes c =
     let bs = c.args.text.now in
-    let k1 = c.in-ok-success.ensures in
-    let m1 : verdict_of (word_at 0 bs) ≡ Ok c.in-ok-success.success = cc in
+    let k1 = c.in_ok-success.ensures in
+    let m1 : verdict_of (word_at 0 bs) ≡ Ok c.in_ok-success.success = cc in
     let rest : after_words 1 bs ≡ c.after.result.now = cc in
-    rw (exit_is _ _ c.from-residual-in-err-bytes.ensures.1) (⊎_elim inl (λ k. inr (go_on _ m1 ∙ stopped _ (ap (record_of c.args.defaults) rest ∙ k))) c.in-err-bytes.ensures)
+    rw (exit_is _ _ c.from_residual-in_err-bytes.ensures.1) (⊎_elim inl (λ k. inr (go_on _ m1 ∙ stopped _ (ap (record_of c.args.defaults) rest ∙ k))) c.in_err-bytes.ensures)
 
 pub returns : goal.returns
 unfolding certified_of
 returns c =
     let bs = c.args.text.now in
-    let k1 = c.in-ok-success.ensures in
-    let m1 : verdict_of (word_at 0 bs) ≡ Ok c.in-ok-success.success = cc in
-    let m2 = ap (record_of c.args.defaults) (sym c.after.ensures) ∙ c.in-ok-bytes.ensures in
+    let k1 = c.in_ok-success.ensures in
+    let m1 : verdict_of (word_at 0 bs) ≡ Ok c.in_ok-success.success = cc in
+    let m2 = ap (record_of c.args.defaults) (sym c.after.ensures) ∙ c.in_ok-bytes.ensures in
     go_on _ m1 ∙ go_on _ m2

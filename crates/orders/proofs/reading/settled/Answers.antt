@@ -6,44 +6,44 @@ use Rattle.words.specs.Numerals.{number_of, short_of}
 use Rattle.words.proofs.Binds.{go_on, stopped, exit_is}
 use Rattle.orders.proofs.reading.settled.Goals as goal
 
-pub returns-in-err-view : goal.returns-in-err-view
+pub returns-in_err-view : goal.returns-in_err-view
 unfolding settled_of
-returns-in-err-view c =
+returns-in_err-view c =
     let bs = c.args.text.now in
-    let k = c.in-err-view.ensures in
-    let m1 : number_of (word_at 0 bs) ≡ Err c.in-err-view.field-0.0 = cc in
-    rw (exit_is _ _ c.from-residual.ensures.1) (inr (stopped _ m1))
+    let k = c.in_err-view.ensures in
+    let m1 : number_of (word_at 0 bs) ≡ Err c.in_err-view.field-0.0 = cc in
+    rw (exit_is _ _ c.from_residual.ensures.1) (inr (stopped _ m1))
 
-pub returns-in-err-kind : goal.returns-in-err-kind
+pub returns-in_err-kind : goal.returns-in_err-kind
 unfolding settled_of
-returns-in-err-kind c =
+returns-in_err-kind c =
     let bs = c.args.text.now in
-    let k1 = c.in-ok-view.ensures in
-    let m1 : number_of (word_at 0 bs) ≡ Ok c.in-ok-view.view = cc in
-    let k = c.in-err-kind.ensures in
-    let m2 : kind_of (word_at 1 bs) ≡ Err c.in-err-kind.field-0.0 = cc in
-    rw (exit_is _ _ c.from-residual-in-err-kind.ensures.1) (inr (go_on _ m1 ∙ stopped _ m2))
+    let k1 = c.in_ok-view.ensures in
+    let m1 : number_of (word_at 0 bs) ≡ Ok c.in_ok-view.view = cc in
+    let k = c.in_err-kind.ensures in
+    let m2 : kind_of (word_at 1 bs) ≡ Err c.in_err-kind.field-0.0 = cc in
+    rw (exit_is _ _ c.from_residual-in_err-kind.ensures.1) (inr (go_on _ m1 ∙ stopped _ m2))
 
-pub returns-in-err-end : goal.returns-in-err-end
+pub returns-in_err-end : goal.returns-in_err-end
 unfolding settled_of
-returns-in-err-end c =
+returns-in_err-end c =
     let bs = c.args.text.now in
-    let k1 = c.in-ok-view.ensures in
-    let m1 : number_of (word_at 0 bs) ≡ Ok c.in-ok-view.view = cc in
-    let k2 = c.in-ok-kind.ensures in
-    let m2 : kind_of (word_at 1 bs) ≡ Ok c.in-ok-kind.kind = cc in
-    let k = c.in-err-end.ensures in
-    let m3 : ended (after_words 2 bs) ≡ Err c.in-err-end.field-0.0 = cc in
-    rw (exit_is _ _ c.from-residual-in-err-end.ensures.1) (inr (go_on _ m1 ∙ go_on _ m2 ∙ stopped _ m3))
+    let k1 = c.in_ok-view.ensures in
+    let m1 : number_of (word_at 0 bs) ≡ Ok c.in_ok-view.view = cc in
+    let k2 = c.in_ok-kind.ensures in
+    let m2 : kind_of (word_at 1 bs) ≡ Ok c.in_ok-kind.kind = cc in
+    let k = c.in_err-end.ensures in
+    let m3 : ended (after_words 2 bs) ≡ Err c.in_err-end.field-0.0 = cc in
+    rw (exit_is _ _ c.from_residual-in_err-end.ensures.1) (inr (go_on _ m1 ∙ go_on _ m2 ∙ stopped _ m3))
 
 pub returns : goal.returns
 unfolding settled_of
 returns c =
     let bs = c.args.text.now in
-    let k1 = c.in-ok-view.ensures in
-    let m1 : number_of (word_at 0 bs) ≡ Ok c.in-ok-view.view = cc in
-    let k2 = c.in-ok-kind.ensures in
-    let m2 : kind_of (word_at 1 bs) ≡ Ok c.in-ok-kind.kind = cc in
-    let k3 = c.in-ok-end.ensures in
-    let m3 : ended (after_words 2 bs) ≡ Ok c.in-ok-end.field-0 = cc in
+    let k1 = c.in_ok-view.ensures in
+    let m1 : number_of (word_at 0 bs) ≡ Ok c.in_ok-view.view = cc in
+    let k2 = c.in_ok-kind.ensures in
+    let m2 : kind_of (word_at 1 bs) ≡ Ok c.in_ok-kind.kind = cc in
+    let k3 = c.in_ok-end.ensures in
+    let m3 : ended (after_words 2 bs) ≡ Ok c.in_ok-end.field-0 = cc in
     go_on _ m1 ∙ go_on _ m2 ∙ go_on _ m3

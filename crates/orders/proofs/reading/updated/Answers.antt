@@ -6,15 +6,15 @@ use Rattle.words.specs.Numerals.{number_of, short_of}
 use Rattle.words.proofs.Binds.{go_on, stopped, exit_is}
 use Rattle.orders.proofs.reading.updated.Goals as goal
 
-pub returns-in-err-bytes : goal.returns-in-err-bytes
+pub returns-in_err-bytes : goal.returns-in_err-bytes
 unfolding updated_of
-returns-in-err-bytes c =
+returns-in_err-bytes c =
     let bs = c.args.text.now in
-    rw (exit_is _ _ c.from-residual.ensures.1) (⊎_elim inl (λ k. inr (stopped _ (k))) c.in-err-bytes.ensures)
+    rw (exit_is _ _ c.from_residual.ensures.1) (⊎_elim inl (λ k. inr (stopped _ (k))) c.in_err-bytes.ensures)
 
 pub returns : goal.returns
 unfolding updated_of
 returns c =
     let bs = c.args.text.now in
-    let m1 = c.in-ok-bytes.ensures in
+    let m1 = c.in_ok-bytes.ensures in
     go_on _ m1

@@ -7,4 +7,4 @@ use Rattle.record.proofs.reading.number.Goals as goal
 pub returns : goal.returns
 returns c =
     let eight = c.in-Some.ensures.cases.same ∙ take_all 8 c.args.bytes.now (omega arith) in
-    c.from-be-bytes.ensures ∙ sym (number_eight _ (ap length eight ∙ c.requires)) ∙ ap number eight
+    c.from_be_bytes.ensures ∙ sym (number_eight _ (ap length eight ∙ c.requires)) ∙ ap number eight

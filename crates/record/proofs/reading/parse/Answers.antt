@@ -6,13 +6,13 @@ pub returns-then-bytes-ne-LENGTH : goal.returns-then-bytes-ne-LENGTH
 unfolding reading
 returns-then-bytes-ne-LENGTH c = search rules
 
-pub returns-in-default : goal.returns-in-default
+pub returns-in_default : goal.returns-in_default
 unfolding reading
-returns-in-default c = search rules
+returns-in_default c = search rules
 
-pub returns-in-err-read : goal.returns-in-err-read
+pub returns-in_err-read : goal.returns-in_err-read
 unfolding reading
-returns-in-err-read c = search rules
+returns-in_err-read c = search rules
 
 pub returns : goal.returns
 unfolding reading

@@ -9,5 +9,5 @@ returns c =
     let field = c.args.field.now in
     let size : at + length field - at ≡ length field = omega arith in
     let past = ap (λ n. drop n (drop at bytes)) size ∙ drop-drop (length field) at bytes in
-    let same = c.copy-from-slice.ensures.after in
+    let same = c.copy_from_slice.ensures.after in
     cc

@@ -5,6 +5,6 @@ use Rattle.record.proofs.writing.put_number.Goals as goal
 pub returns : goal.returns
 returns c =
     let number = c.args.number in
-    let same = c.to-be-bytes.ensures ∙ sym (bytes_eight number) in
+    let same = c.to_be_bytes.ensures ∙ sym (bytes_eight number) in
     let size = ap length same ∙ length_bytes 8 number in
     record { bytes = cc; fits = c.ranges.number.fits }

@@ -15,19 +15,19 @@ returns-then-is c =
     let k = c.if-is.ensures in
     let named : bytes_eq (word_at 0 bs) (codes "bytes") ≡ true = cc in
     let same = ap hex_record c.after.ensures ∙ sym (cond-true _ _ (parts_of c.args.defaults bs) named) in
-    subst (λ m. Told c.hex-record.result vec_items m) same c.hex-record.ensures
+    subst (λ m. Told c.hex_record.result vec_items m) same c.hex_record.ensures
 
-pub returns-in-err-bytes : goal.returns-in-err-bytes
+pub returns-in_err-bytes : goal.returns-in_err-bytes
 unfolding record_of
-returns-in-err-bytes c =
+returns-in_err-bytes c =
     let bs = c.args.text.now in
     let k = c.if-is.ensures in
     let other : bytes_eq (word_at 0 bs) (codes "bytes") ≡ false = cc in
-    rw (exit_is _ _ c.from-residual.ensures.1) (inr (cond-false _ _ _ other ∙ sym c.in-err-bytes.ensures))
+    rw (exit_is _ _ c.from_residual.ensures.1) (inr (cond-false _ _ _ other ∙ sym c.in_err-bytes.ensures))
 
-pub returns-in-err-from-slice : goal.returns-in-err-from-slice
-returns-in-err-from-slice c =
-    let p = err_from_is_err_and c.from-residual-in-err-from-slice.result c.from-residual-in-err-from-slice.ensures.1 in
+pub returns-in_err-from_slice : goal.returns-in_err-from_slice
+returns-in_err-from_slice c =
+    let p = err_from_is_err_and c.from_residual-in_err-from_slice.result c.from_residual-in_err-from_slice.ensures.1 in
     rw (p.1, p.2) (inl refl)
 
 pub returns : goal.returns
@@ -36,4 +36,4 @@ returns c =
     let bs = c.args.text.now in
     let k = c.if-is.ensures in
     let other : bytes_eq (word_at 0 bs) (codes "bytes") ≡ false = cc in
-    cond-false _ _ _ other ∙ sym c.in-ok-bytes.ensures ∙ sym (ap Ok c.in-ok-from-slice.ensures.items)
+    cond-false _ _ _ other ∙ sym c.in_ok-bytes.ensures ∙ sym (ap Ok c.in_ok-from_slice.ensures.items)

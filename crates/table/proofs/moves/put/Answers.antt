@@ -3,4 +3,4 @@ use Rattle.table.proofs.Shifts.{put_is}
 use Rattle.table.proofs.moves.put.Goals as goal
 
 pub returns : goal.returns
-returns g c = put_is c.args.rows.now c.move-up.new.rows c.args.at c.args.len c.args.row c.requires.within (omega arith) (omega arith) c.move-up.ensures.below c.move-up.ensures.moved
+returns g c = put_is c.args.rows.now c.move_up.new.rows c.args.at c.args.len c.args.row c.requires.within (omega arith) (omega arith) c.move_up.ensures.below c.move_up.ensures.moved

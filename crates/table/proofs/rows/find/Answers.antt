@@ -8,11 +8,11 @@ pub returns-then-view : goal.returns-then-view
 returns-then-view g c =
     let at = g.R.Viewable.viewed in
     let n = length-take-le c.args.len c.args.rows.now c.requires in
-    let row = view_among at c.args.rows.now c.args.len c.first-kept-at.result c.index-rows-at.result c.requires (omega arith) in
+    let row = view_among at c.args.rows.now c.args.len c.first_kept-at.result c.index-rows-at.result c.requires (omega arith) in
     record {
       within = omega arith;
       place = λ asc. record {
-        parts = c.first-kept-at.ensures.parts asc;
+        parts = c.first_kept-at.ensures.parts asc;
         within = omega arith;
         is = row ∙ ap at (sym c.index-rows-at.is) ∙ sym c.view.ensures ∙ c.if-view.true;
       };
@@ -21,11 +21,11 @@ returns-then-view g c =
 pub returns-else-view : goal.returns-else-view
 returns-else-view g c =
     let at = g.R.Viewable.viewed in
-    let row = view_among at c.args.rows.now c.args.len c.first-kept-at.result c.index-rows-at.result c.requires (omega arith) in
+    let row = view_among at c.args.rows.now c.args.len c.first_kept-at.result c.index-rows-at.result c.requires (omega arith) in
     record {
       within = omega arith;
       place = λ asc. record {
-        parts = c.first-kept-at.ensures.parts asc;
+        parts = c.first_kept-at.ensures.parts asc;
         none = λ h e. c.if-view.false (c.view.ensures ∙ ap at c.index-rows-at.is ∙ sym row ∙ e);
       };
     }

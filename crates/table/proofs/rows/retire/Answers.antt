@@ -5,9 +5,9 @@ use Rattle.table.proofs.rows.retire.Goals as goal
 
 pub returns : goal.returns
 returns g c =
-    let n = c.first-kept-n.result in
+    let n = c.first_kept-n.result in
     let rows = c.args.rows.now in
     record {
       within = omega arith;
-      rows = λ asc. c.cut-off.ensures ∙ between_is rows n c.args.len ∙ sym (kept_is g.R.Viewable.viewed (g.O.Order.keeping c.args.order.now) (take c.args.len rows) n (c.first-kept-n.ensures.parts asc));
+      rows = λ asc. c.cut_off.ensures ∙ between_is rows n c.args.len ∙ sym (kept_is g.R.Viewable.viewed (g.O.Order.keeping c.args.order.now) (take c.args.len rows) n (c.first_kept-n.ensures.parts asc));
     }

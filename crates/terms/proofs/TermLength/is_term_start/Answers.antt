@@ -6,7 +6,7 @@ use Rattle.terms.proofs.TermLength.is_term_start.Goals as goal
 pub returns : goal.returns
 unfolding is_start
 returns c = record {
-  value = ap (eqb c.args.view) c.term-start.ensures.value;
+  value = ap (eqb c.args.view) c.term_start.ensures.value;
   start_covered = start_covered (views c.args.self) c.args.self.positive;
   starts_itself = starts_itself (views c.args.self) c.args.self.positive;
 }

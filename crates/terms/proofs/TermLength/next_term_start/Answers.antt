@@ -5,23 +5,23 @@ use Rattle.terms.specs.Terms.{views, next}
 use Rattle.terms.proofs.Laws.{least_next, end_below}
 use Rattle.terms.proofs.TermLength.next_term_start.Goals as goal
 
-pub returns-in-err-term-end : goal.returns-in-err-term-end
-returns-in-err-term-end c =
-    let p = err_from_is_err_and c.from-residual.result c.from-residual.ensures.1 in
+pub returns-in_err-term_end : goal.returns-in_err-term_end
+returns-in_err-term_end c =
+    let p = err_from_is_err_and c.from_residual.result c.from_residual.ensures.1 in
     record {
-      value = rw (p.1, p.2) c.in-err-term-end.ensures.value;
+      value = rw (p.1, p.2) c.in_err-term_end.ensures.value;
       least_next = least_next (views c.args.self) c.args.self.positive;
     }
 
-pub overflow-add-result : goal.overflow-add-result
-overflow-add-result c =
-    let told = c.in-ok-term-end.ensures.value in
+pub overflow_add-result : goal.overflow_add-result
+overflow_add-result c =
+    let told = c.in_ok-term_end.ensures.value in
     record { fits = omega (arith, told, end_below (views c.args.self) c.args.self.positive c.args.view, c.args.self.bounded) }
 
 pub returns : goal.returns
 unfolding next
 returns c =
-    let told = c.in-ok-term-end.ensures.value in
+    let told = c.in_ok-term_end.ensures.value in
     record {
       value = (told.0, ap (λ n. n + 1) told.1);
       least_next = least_next (views c.args.self) c.args.self.positive;

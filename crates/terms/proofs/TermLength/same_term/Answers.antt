@@ -5,6 +5,6 @@ use Rattle.terms.proofs.TermLength.same_term.Goals as goal
 pub returns : goal.returns
 unfolding same_term
 returns c = record {
-  value = cc (c.term-start.ensures.value, c.term-start-2.ensures.value);
+  value = cc (c.term_start.ensures.value, c.term_start-2.ensures.value);
   same_start = same_start (views c.args.self) c.args.self.positive;
 }

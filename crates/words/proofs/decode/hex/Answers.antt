@@ -12,35 +12,35 @@ use Rattle.words.proofs.decode.hex.Goals as goal
 hyphen : (w : List ℕ) (r t : Bool) → Matches (λ (a b : ℕ) (s : Bool). Decides s (a ≡ b)) w (45 ∷ []) r → r ≡ t → bytes_eq w (45 ∷ []) ≡ t
 hyphen w r t m e = same_from_decides _ r (bytes_eq-Decides w (45 ∷ [])) (slice_eq-Decides Decides-eqb w (45 ∷ []) r m) ∙ e
 
-pub returns-then-is-empty : goal.returns-then-is-empty
+pub returns-then-is_empty : goal.returns-then-is_empty
 unfolding hex_of
-returns-then-is-empty c = inr (cond-true _ _ _ (sym c.if-is-empty.ensures))
+returns-then-is_empty c = inr (cond-true _ _ _ (sym c.if-is_empty.ensures))
 
 pub returns-then-eq : goal.returns-then-eq
 unfolding hex_of
 returns-then-eq c =
     let same = hyphen _ _ _ c.eq.ensures c.if-eq.true in
-    cond-false _ _ _ (sym c.if-is-empty.ensures) ∙ cond-true _ _ _ same ∙ sym (ap Ok c.new.ensures.items)
+    cond-false _ _ _ (sym c.if-is_empty.ensures) ∙ cond-true _ _ _ same ∙ sym (ap Ok c.new.ensures.items)
 
 pub returns-then-not-all : goal.returns-then-not-all
 unfolding hex_of
 returns-then-not-all c =
     let other = hyphen _ _ _ c.eq.ensures c.if-eq.false in
-    inr (cond-false _ _ _ (sym c.if-is-empty.ensures) ∙ cond-false _ _ _ other ∙ cond-false _ _ _ (sym c.if-not-all.ensures))
+    inr (cond-false _ _ _ (sym c.if-is_empty.ensures) ∙ cond-false _ _ _ other ∙ cond-false _ _ _ (sym c.if-not-all.ensures))
 
 pub returns-then-word-eq1 : goal.returns-then-word-eq1
 unfolding hex_of
 returns-then-word-eq1 c =
     let other = hyphen _ _ _ c.eq.ensures c.if-eq.false in
-    inr (cond-false _ _ _ (sym c.if-is-empty.ensures) ∙ cond-false _ _ _ other ∙ cond-true _ _ _ (sym c.if-not-all.ensures) ∙ cond-true _ _ _ (eq-eqb _ 1 c.if-word-eq1.true))
+    inr (cond-false _ _ _ (sym c.if-is_empty.ensures) ∙ cond-false _ _ _ other ∙ cond-true _ _ _ (sym c.if-not-all.ensures) ∙ cond-true _ _ _ (eq-eqb _ 1 c.if-word-eq1.true))
 
-pub returns-in-err-decode : goal.returns-in-err-decode
-returns-in-err-decode c =
-    let p = err_from_is_err_and c.from-residual.result c.from-residual.ensures.1 in
+pub returns-in_err-decode : goal.returns-in_err-decode
+returns-in_err-decode c =
+    let p = err_from_is_err_and c.from_residual.result c.from_residual.ensures.1 in
     rw (p.1, p.2) (inl refl)
 
 pub returns : goal.returns
 unfolding hex_of
 returns c =
     let other = hyphen _ _ _ c.eq.ensures c.if-eq.false in
-    cond-false _ _ _ (sym c.if-is-empty.ensures) ∙ cond-false _ _ _ other ∙ cond-true _ _ _ (sym c.if-not-all.ensures) ∙ cond-false _ _ _ (ne_eqb _ 1 c.if-word-eq1.false) ∙ sym (ap Ok c.in-ok-decode.ensures)
+    cond-false _ _ _ (sym c.if-is_empty.ensures) ∙ cond-false _ _ _ other ∙ cond-true _ _ _ (sym c.if-not-all.ensures) ∙ cond-false _ _ _ (ne_eqb _ 1 c.if-word-eq1.false) ∙ sym (ap Ok c.in_ok-decode.ensures)

@@ -10,4 +10,4 @@ returns-then-not-plain c = sym (cond-false _ _ _ (sym c.if-not-plain.ensures))
 
 pub returns : goal.returns
 unfolding decimal_of
-returns c = c.ok-or.ensures.value ∙ read_as _ _ _ c.value.ensures ∙ sym (cond-true _ _ _ (sym c.if-not-plain.ensures))
+returns c = c.ok_or.ensures.value ∙ read_as _ _ _ c.value.ensures ∙ sym (cond-true _ _ _ (sym c.if-not-plain.ensures))

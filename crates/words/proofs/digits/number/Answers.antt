@@ -3,10 +3,10 @@ use Rattle.std.proofs.lemmas.Bool.{cond-true, cond-false}
 use Rattle.words.specs.Numerals.{number_of}
 use Rattle.words.proofs.digits.number.Goals as goal
 
-pub returns-then-is-empty : goal.returns-then-is-empty
+pub returns-then-is_empty : goal.returns-then-is_empty
 unfolding number_of
-returns-then-is-empty c = sym (cond-true _ _ _ (sym c.if-is-empty.ensures))
+returns-then-is_empty c = sym (cond-true _ _ _ (sym c.if-is_empty.ensures))
 
 pub returns : goal.returns
 unfolding number_of
-returns c = c.decimal.ensures ∙ sym (cond-false _ _ _ (sym c.if-is-empty.ensures))
+returns c = c.decimal.ensures ∙ sym (cond-false _ _ _ (sym c.if-is_empty.ensures))

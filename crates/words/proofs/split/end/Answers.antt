@@ -2,10 +2,10 @@ use Rattle.std.proofs.Common.{rules}
 use Rattle.words.specs.Lines.{ended}
 use Rattle.words.proofs.split.end.Goals as goal
 
-pub returns-then-is-empty : goal.returns-then-is-empty
+pub returns-then-is_empty : goal.returns-then-is_empty
 unfolding ended
-returns-then-is-empty c = search rules
+returns-then-is_empty c = search rules
 
-pub returns-else-is-empty : goal.returns-else-is-empty
+pub returns-else-is_empty : goal.returns-else-is_empty
 unfolding ended
-returns-else-is-empty c = search rules
+returns-else-is_empty c = search rules

@@ -16,5 +16,5 @@ stripped w name (Some x) m = (told w name true m.0, m.1)
 
 pub returns : goal.returns
 returns c =
-    subst (λ name. MatchOption c.strip-prefix.result (begins name c.args.word.now ≡ false) (λ x. (begins name c.args.word.now ≡ true) × (x.now ≡ drop (length name) c.args.word.now))) c.as-bytes.ensures.value
-    (stripped c.args.word.now c.as-bytes.result.now c.strip-prefix.result c.strip-prefix.ensures.cases)
+    subst (λ name. MatchOption c.strip_prefix.result (begins name c.args.word.now ≡ false) (λ x. (begins name c.args.word.now ≡ true) × (x.now ≡ drop (length name) c.args.word.now))) c.as_bytes.ensures.value
+    (stripped c.args.word.now c.as_bytes.result.now c.strip_prefix.result c.strip_prefix.ensures.cases)

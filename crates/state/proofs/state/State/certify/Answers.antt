@@ -9,5 +9,5 @@ judge-requires g c =
     record {
       fit = search rules;
       room = search rules;
-      tested = only_notarization (term s) c.args.success c.kind.result c.view-view.result (held s) (sym c.in-ok-test-verdict.ensures);
+      tested = only_notarization (term s) c.args.success c.kind.result c.view-view.result (held s) (sym c.in_ok-test_verdict.ensures);
     }

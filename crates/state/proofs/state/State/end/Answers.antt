@@ -7,8 +7,8 @@ use Rattle.state.proofs.Evidence.{marker_tested, marker_lawful, marker_room, mar
 use Rattle.state.proofs.Facts.{rising_of, rises_of, lawful_of, low_of, facts_after, cleared_room}
 use Rattle.state.proofs.state.State.end.Goals as goal
 
-pub invariant-of-self : goal.invariant-of-self
-invariant-of-self g c =
+pub invariant_of-self : goal.invariant_of-self
+invariant_of-self g c =
     let s = c.args.self.now in
     let turned = c.replayed.ensures.turned (rising_of s) (low_of s) in
     facts_after s c.replayed.new.self _ turned (marker_lawful (term s) s.store.term_length.positive (held s) (lawful_of s) (rises_of s) (marker_tested (term s) (held s) c.requires.tested))

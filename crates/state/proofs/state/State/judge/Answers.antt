@@ -7,8 +7,8 @@ use Rattle.state.proofs.Evidence.{verdict_tested, verdict_lawful, verdict_promis
 use Rattle.state.proofs.Facts.{rising_of, rises_of, roomy_of, lawful_of, low_of, facts_after, cleared_room}
 use Rattle.state.proofs.state.State.judge.Goals as goal
 
-pub invariant-of-self : goal.invariant-of-self
-invariant-of-self g c =
+pub invariant_of-self : goal.invariant_of-self
+invariant_of-self g c =
     let s = c.args.self.now in
     let b = c.args.success in
     let h = c.args.held in

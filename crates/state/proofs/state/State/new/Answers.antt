@@ -6,8 +6,8 @@ use Rattle.state.specs.States.{enough}
 use Rattle.state.proofs.Facts.{facts, fresh_lawful}
 use Rattle.state.proofs.state.State.new.Goals as goal
 
-pub invariant-of-result : goal.invariant-of-result
-invariant-of-result g c =
+pub invariant_of-result : goal.invariant_of-result
+invariant_of-result g c =
     let m = c.args.memory in
     let made = c.new.ensures in
     let L = length_of c.new.result in

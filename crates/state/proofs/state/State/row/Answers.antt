@@ -1,13 +1,13 @@
 use Rattle.state.proofs.state.State.row.Goals as goal
 
 pub returns-in-Nullifications : goal.returns-in-Nullifications
-returns-in-Nullifications g c = rw c.in-Nullifications.is c.nth-view.ensures
+returns-in-Nullifications g c = rw c.in-Nullifications.is c.nth_view.ensures
 
 pub returns-in-Pending : goal.returns-in-Pending
-returns-in-Pending g c = rw c.in-Pending.is c.nth-view-in-Pending.ensures
+returns-in-Pending g c = rw c.in-Pending.is c.nth_view-in-Pending.ensures
 
 pub returns-in-Certified : goal.returns-in-Certified
-returns-in-Certified g c = rw c.in-Certified.is c.nth-view-in-Certified.ensures
+returns-in-Certified g c = rw c.in-Certified.is c.nth_view-in-Certified.ensures
 
 pub returns-in-Failed : goal.returns-in-Failed
-returns-in-Failed g c = rw c.in-Failed.is c.nth-view-in-Failed.ensures
+returns-in-Failed g c = rw c.in-Failed.is c.nth_view-in-Failed.ensures

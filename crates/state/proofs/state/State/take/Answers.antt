@@ -9,8 +9,8 @@ use Rattle.state.proofs.Evidence.{Tested, evidence_tested, evidence_lawful, evid
 use Rattle.state.proofs.Facts.{rising_of, rises_of, roomy_of, lawful_of, low_of, finalized_low, facts_after, cleared_room}
 use Rattle.state.proofs.state.State.take.Goals as goal
 
-pub invariant-of-self : goal.invariant-of-self
-invariant-of-self g c =
+pub invariant_of-self : goal.invariant_of-self
+invariant_of-self g c =
     let s = c.args.self.now in
     let k = c.args.kind in
     let h = c.args.held in

@@ -6,18 +6,18 @@ use Rattle.state.specs.States.{held, term}
 use Rattle.state.proofs.Testing.{refused, passed}
 use Rattle.state.proofs.state.State.test_evidence.Goals as goal
 
-pub returns-then-held-gt-LAST-VIEW : goal.returns-then-held-gt-LAST-VIEW
+pub returns-then-held-gt-LAST_VIEW : goal.returns-then-held-gt-LAST_VIEW
 unfolding evidence_answer
-returns-then-held-gt-LAST-VIEW g c = refused _ _ _ (lt-ltb (2 ^ 62) c.args.held.view c.if-held-gt-LAST-VIEW.true)
+returns-then-held-gt-LAST_VIEW g c = refused _ _ _ (lt-ltb (2 ^ 62) c.args.held.view c.if-held-gt-LAST_VIEW.true)
 
-pub returns-then-is-full : goal.returns-then-is-full
+pub returns-then-is_full : goal.returns-then-is_full
 unfolding evidence_answer
-returns-then-is-full g c = passed _ _ _ _ (le-ltb (2 ^ 62) c.args.held.view c.if-held-gt-LAST-VIEW.false) (refused _ _ _ (sym c.is-full.ensures ∙ c.if-is-full.true))
+returns-then-is_full g c = passed _ _ _ _ (le-ltb (2 ^ 62) c.args.held.view c.if-held-gt-LAST_VIEW.false) (refused _ _ _ (sym c.is_full.ensures ∙ c.if-is_full.true))
 
-pub returns-then-too-many-gaps : goal.returns-then-too-many-gaps
+pub returns-then-too_many_gaps : goal.returns-then-too_many_gaps
 unfolding evidence_answer
-returns-then-too-many-gaps g c = passed _ _ _ _ (le-ltb (2 ^ 62) c.args.held.view c.if-held-gt-LAST-VIEW.false) (passed _ _ _ _ (sym c.is-full.ensures ∙ c.if-is-full.false) (refused _ _ _ (sym c.too-many-gaps.ensures ∙ c.if-too-many-gaps.true)))
+returns-then-too_many_gaps g c = passed _ _ _ _ (le-ltb (2 ^ 62) c.args.held.view c.if-held-gt-LAST_VIEW.false) (passed _ _ _ _ (sym c.is_full.ensures ∙ c.if-is_full.false) (refused _ _ _ (sym c.too_many_gaps.ensures ∙ c.if-too_many_gaps.true)))
 
 pub returns : goal.returns
 unfolding evidence_answer
-returns g c = passed _ _ _ _ (le-ltb (2 ^ 62) c.args.held.view c.if-held-gt-LAST-VIEW.false) (passed _ _ _ _ (sym c.is-full.ensures ∙ c.if-is-full.false) (passed _ _ (Ok tt) (Ok tt) (sym c.too-many-gaps.ensures ∙ c.if-too-many-gaps.false) refl))
+returns g c = passed _ _ _ _ (le-ltb (2 ^ 62) c.args.held.view c.if-held-gt-LAST_VIEW.false) (passed _ _ _ _ (sym c.is_full.ensures ∙ c.if-is_full.false) (passed _ _ (Ok tt) (Ok tt) (sym c.too_many_gaps.ensures ∙ c.if-too_many_gaps.false) refl))

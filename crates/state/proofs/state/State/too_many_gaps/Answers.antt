@@ -17,7 +17,7 @@ returns g c =
     let L = term s in
     let h = c.args.held in
     let above : (held s).current < h.view = omega arith in
-    let low : c.floor-after-low.result + 1 ≡ floor_after L c.args.kind h.view (held s) + 1 = ap (λ n. n + 1) c.floor-after-low.ensures in
+    let low : c.floor_after-low.result + 1 ≡ floor_after L c.args.kind h.view (held s) + 1 = ap (λ n. n + 1) c.floor_after-low.ensures in
     let told = c.exceeds.ensures in
     told
     ∙ ap (λ n. ltb 128 (length (gaps L (is_covered L (held s)) n h.view))) low

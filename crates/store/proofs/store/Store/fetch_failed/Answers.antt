@@ -23,7 +23,7 @@ loop-i-preserved g c = λ up room.
     let is : v ≡ get_or xs i 0 = ap mark_view told.1 ∙ sym (get_or-map mark_view fs i c.in-Some.mark 0 told.0) in
     let before = c.loop-i.invariant up room in
     let free : HasRoom (length (bare_effects (length_of s) v (values s))) c.loop-i.effects = omega (arith, room, before.room, ap length before.stand, length-append (list.entries c.args.effects.now) (map failed_fetch (filter p (take i xs))), one_fits p xs i v in' is) in
-    subst (λ es. Added es c.args.effects.now c.fetch-bare.new.effects) (sym (one_more p xs i v in' is)) (added_both _ _ c.args.effects.now c.loop-i.effects c.fetch-bare.new.effects before (c.fetch-bare.ensures up free))
+    subst (λ es. Added es c.args.effects.now c.fetch_bare.new.effects) (sym (one_more p xs i v in' is)) (added_both _ _ c.args.effects.now c.loop-i.effects c.fetch_bare.new.effects before (c.fetch_bare.ensures up free))
 
 pub returns : goal.returns
 unfolding failed_bare

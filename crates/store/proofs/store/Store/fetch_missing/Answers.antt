@@ -25,7 +25,7 @@ returns g c =
     let s = c.args.self.now in
     let L = length_of s in
     let told = c.in-Ok.ensures in
-    let from : Low (values s) → c.max-low.result ≡ plan_start s.cursor s.floor = λ low. omega (arith, c.max-low.ensures, c.saturating-add.ensures, low.floor) in
+    let from : Low (values s) → c.max-low.result ≡ plan_start s.cursor s.floor = λ low. omega (arith, c.max-low.ensures, c.saturating_add.ensures, low.floor) in
     let es = λ (b : _). cond b [] (map (missing c.args.cause) (unplanned L (values s))) in
     let all = λ (n : _). gaps L (is_covered L (values s)) n s.current_view in
     record {
@@ -33,5 +33,5 @@ returns g c =
       added = λ up low room.
           let fits : length (map (missing c.args.cause) (all (plan_start s.cursor s.floor))) ≡ length (all c.max-low.result) = length-map (all (plan_start s.cursor s.floor)) (missing c.args.cause) ∙ ap (λ n. length (all n)) (sym (from low)) in
           let asked = ap length (ap es c.if-self.false) in
-          subst (λ l. Added l c.args.effects.now c.fetch-missing.new.effects) (ap (λ n. map (missing c.args.cause) (all n)) (from low) ∙ sym (ap es c.if-self.false)) (told.added up.nullifications low.current (omega (arith, room, fits, asked)));
+          subst (λ l. Added l c.args.effects.now c.fetch_missing.new.effects) (ap (λ n. map (missing c.args.cause) (all n)) (from low) ∙ sym (ap es c.if-self.false)) (told.added up.nullifications low.current (omega (arith, room, fits, asked)));
     }

@@ -6,12 +6,12 @@ use Rattle.store.specs.Steps.{certified_at}
 use Rattle.store.proofs.Turns.{goes_in, turned_same, turned_certified}
 use Rattle.store.proofs.store.Store.keep_certified.Goals as goal
 
-pub returns-then-held-last-finalized : goal.returns-then-held-last-finalized
+pub returns-then-held-last_finalized : goal.returns-then-held-last_finalized
 unfolding certified_at
-returns-then-held-last-finalized g c =
+returns-then-held-last_finalized g c =
     let s = c.args.self.now in
     let v = c.args.held.view in
-    λ up room. turned_same s _ up (ap (λ x. with_certified x (values s)) (cond-false (ltb (finalized (values s)) v) _ _ (le-ltb (finalized (values s)) v (omega (arith, c.last-finalized.ensures, c.if-held-last-finalized.true)))))
+    λ up room. turned_same s _ up (ap (λ x. with_certified x (values s)) (cond-false (ltb (finalized (values s)) v) _ _ (le-ltb (finalized (values s)) v (omega (arith, c.last_finalized.ensures, c.if-held-last_finalized.true)))))
 
 pub returns : goal.returns
 unfolding certified_at
@@ -19,5 +19,5 @@ returns g c =
     let s = c.args.self.now in
     let v = c.args.held.view in
     let told = c.insert.ensures in
-    let above : finalized (values s) < v = omega (arith, c.last-finalized.ensures, c.if-held-last-finalized.false) in
+    let above : finalized (values s) < v = omega (arith, c.last_finalized.ensures, c.if-held-last_finalized.false) in
     λ up room. turned_certified s up _ c.insert.new.self _ (goes_in held_view (capacity s.certified_notarizations) c.args.held c.insert.result (entries s.certified_notarizations) _ (told.room up.certified) (told.rows up.certified) (room above)) (told.rises up.certified) told.cap (ap (λ x. with_certified x (values s)) (cond-true (ltb (finalized (values s)) v) _ _ (lt-ltb (finalized (values s)) v above)))

@@ -6,12 +6,12 @@ use Rattle.store.specs.Steps.{failed_at}
 use Rattle.store.proofs.Turns.{goes_in, turned_same, turned_failed}
 use Rattle.store.proofs.store.Store.mark_failed.Goals as goal
 
-pub returns-then-view-last-finalized : goal.returns-then-view-last-finalized
+pub returns-then-view-last_finalized : goal.returns-then-view-last_finalized
 unfolding failed_at
-returns-then-view-last-finalized g c =
+returns-then-view-last_finalized g c =
     let s = c.args.self.now in
     let v = c.args.view in
-    λ up room. turned_same s _ up (ap (λ x. with_failed x (values s)) (cond-false (ltb (finalized (values s)) v) _ _ (le-ltb (finalized (values s)) v (omega (arith, c.last-finalized.ensures, c.if-view-last-finalized.true)))))
+    λ up room. turned_same s _ up (ap (λ x. with_failed x (values s)) (cond-false (ltb (finalized (values s)) v) _ _ (le-ltb (finalized (values s)) v (omega (arith, c.last_finalized.ensures, c.if-view-last_finalized.true)))))
 
 pub returns : goal.returns
 unfolding failed_at
@@ -19,5 +19,5 @@ returns g c =
     let s = c.args.self.now in
     let v = c.args.view in
     let told = c.insert.ensures in
-    let above : finalized (values s) < v = omega (arith, c.last-finalized.ensures, c.if-view-last-finalized.false) in
+    let above : finalized (values s) < v = omega (arith, c.last_finalized.ensures, c.if-view-last_finalized.false) in
     λ up room. turned_failed s up _ c.insert.new.self _ (goes_in mark_view (capacity s.uncertifiable_notarizations) (mark c.args.view) c.insert.result (entries s.uncertifiable_notarizations) _ (told.room up.failed) (told.rows up.failed) (room above)) (told.rises up.failed) told.cap (ap (λ x. with_failed x (values s)) (cond-true (ltb (finalized (values s)) v) _ _ (lt-ltb (finalized (values s)) v above)))

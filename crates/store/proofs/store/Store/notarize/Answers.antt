@@ -8,12 +8,12 @@ use Rattle.store.specs.Steps.{notarization_counts, notarized, notarized_effects,
 use Rattle.store.proofs.Turns.{turned_same}
 use Rattle.store.proofs.store.Store.notarize.Goals as goal
 
-pub returns-then-view-last-finalized : goal.returns-then-view-last-finalized
+pub returns-then-view-last_finalized : goal.returns-then-view-last_finalized
 unfolding notarized notarized_effects
-returns-then-view-last-finalized g c =
+returns-then-view-last_finalized g c =
     let s = c.args.self.now in
     let v = c.args.view in
-    let no : notarization_counts (length_of s) v (values s) ≡ false = and_left _ _ (le-ltb (finalized (values s)) v (omega (arith, c.last-finalized.ensures, c.if-view-last-finalized.true))) in
+    let no : notarization_counts (length_of s) v (values s) ≡ false = and_left _ _ (le-ltb (finalized (values s)) v (omega (arith, c.last_finalized.ensures, c.if-view-last_finalized.true))) in
     record {
       turned = λ up room. turned_same s _ up (ap (λ rs. with_pending rs (values s)) (cond-false (notarization_counts (length_of s) v (values s)) _ _ no));
       added = λ up room. subst (λ es. Added es c.args.effects.now c.args.effects.now) (sym (cond-false (notarization_counts (length_of s) v (values s)) _ [] no)) (nothing_added c.args.effects.now);
@@ -40,11 +40,11 @@ returns g c =
     let s = c.args.self.now in
     let v = c.args.view in
     let L = length_of s in
-    let above : ltb (finalized (values s)) v ≡ true = lt-ltb (finalized (values s)) v (omega (arith, c.last-finalized.ensures, c.if-view-last-finalized.false)) in
+    let above : ltb (finalized (values s)) v ≡ true = lt-ltb (finalized (values s)) v (omega (arith, c.last_finalized.ensures, c.if-view-last_finalized.false)) in
     record {
       turned = λ up room.
           let yes : notarization_counts L v (values s) ≡ true = and_from _ _ above (not_from_false (has_failed v (values s)) (sym (c.contains.ensures up.failed) ∙ c.if-contains.false)) in
-          subst (Turned s c.await-verdict.new.self) (sym (ap (λ rs. with_pending rs (values s)) (cond-true (notarization_counts L v (values s)) (awaiting L v (values s)) _ yes))) (c.await-verdict.ensures up (room yes));
+          subst (Turned s c.await_verdict.new.self) (sym (ap (λ rs. with_pending rs (values s)) (cond-true (notarization_counts L v (values s)) (awaiting L v (values s)) _ yes))) (c.await_verdict.ensures up (room yes));
       added = λ up room.
           let yes : notarization_counts L v (values s) ≡ true = and_from _ _ above (not_from_false (has_failed v (values s)) (sym (c.contains.ensures up.failed) ∙ c.if-contains.false)) in
           subst (λ es. Added es c.args.effects.now c.push.new.self) (sym (cond-true (notarization_counts L v (values s)) _ [] yes)) (c.push.ensures.added (omega (arith, room)));

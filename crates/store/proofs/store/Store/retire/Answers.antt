@@ -15,12 +15,12 @@ returns g c = λ up low.
     let s = c.args.self.now in
     let L = length_of s in
     let f = finalized (values s) in
-    let is : c.last-finalized-finalized.result ≡ f = c.last-finalized-finalized.ensures in
-    let after : c.saturating-add.result ≡ f + 1 = omega (arith, is, c.saturating-add.ensures) in
-    let first : c.term-start-first.result ≡ start L (f + 1) = c.term-start-first.ensures.value ∙ ap (start L) after in
-    let same : (λ (u : ℕ). leb c.term-start-first.result u) ≡ (λ u. ltb f (end L u)) =
-    fun_ext (λ u. ap (λ n. leb n u) first ∙ same_from_decides _ _ (Decides-like _ (λ h. omega arith) (λ h. omega arith) (c.term-start-first.ensures.ends_past u (f + 1))) (Decides-ltb f (end L u))) in
-    let past : (λ (u : ℕ). ltb c.last-finalized-finalized.result u) ≡ (λ u. ltb f u) = ap (λ n u. ltb n u) is in
+    let is : c.last_finalized-finalized.result ≡ f = c.last_finalized-finalized.ensures in
+    let after : c.saturating_add.result ≡ f + 1 = omega (arith, is, c.saturating_add.ensures) in
+    let first : c.term_start-first.result ≡ start L (f + 1) = c.term_start-first.ensures.value ∙ ap (start L) after in
+    let same : (λ (u : ℕ). leb c.term_start-first.result u) ≡ (λ u. ltb f (end L u)) =
+    fun_ext (λ u. ap (λ n. leb n u) first ∙ same_from_decides _ _ (Decides-like _ (λ h. omega arith) (λ h. omega arith) (c.term_start-first.ensures.ends_past u (f + 1))) (Decides-ltb f (end L u))) in
+    let past : (λ (u : ℕ). ltb c.last_finalized-finalized.result u) ≡ (λ u. ltb f u) = ap (λ n u. ltb n u) is in
     turned_tables s _ c.retire.new.self c.retire-2.new.self c.retire-3.new.self c.retire-4.new.self _ _ _ _
     (c.retire.ensures.rises up.nullifications) (c.retire-2.ensures.rises up.pending) (c.retire-3.ensures.rises up.certified) (c.retire-4.ensures.rises up.failed)
     (c.retire.ensures.rows up.nullifications ∙ ap (λ p. kept held_view p (values s).nullifications) same)

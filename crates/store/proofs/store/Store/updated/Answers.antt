@@ -27,15 +27,15 @@ returns g c =
     let low-there : (up : Rising a) (roomy : Roomy a) (old : finalized (values a) ≤ 2 ^ 62) (low : Low (values a)) (new : v ≤ 2 ^ 62) (room : Room L k v (values a)) → Low (values b) =
     λ up roomy old low new room. subst Low (sym (next up roomy old new room).is) (low_before L k h (values a) low new) in
     record {
-      turned = λ up roomy old low new room. turned_next a b _ _ (λ n s. planned n s) (next up roomy old new room) (c.fetch-missing.ensures.turned (next up roomy old new room).rising (low-there up roomy old low new room));
+      turned = λ up roomy old low new room. turned_next a b _ _ (λ n s. planned n s) (next up roomy old new room) (c.fetch_missing.ensures.turned (next up roomy old new room).rising (low-there up roomy old low new room));
       added = λ up roomy old low new room free.
           let x0 = c.args.effects.now in
           let x1 = c.take.new.effects in
-          let x2 = c.fetch-missing.new.effects in
+          let x2 = c.fetch_missing.new.effects in
           let few = taken_few L k h (seen L v (values a)) in
           let one : Added (taken_effects L k h (seen L v (values a))) x0 x1 = added_next a _ _ (λ n s. taken_effects n k h s) x0 x1 (first up) (c.take.ensures.added (first up).rising (roomy_kept a _ (first up).kept roomy) old new (omega (arith, free))) in
           let there = next up roomy old new room in
           let same = told_next a b _ (λ n s. length (planned_effects n v s)) there in
           let left : HasRoom (length (planned_effects (length_of b) v (values b))) x1 = omega (arith, free, few, same, one.room, ap length one.stand, length-append (list.entries x0) (taken_effects L k h (seen L v (values a)))) in
-          added_both _ _ x0 x1 x2 one (added_next a b _ (λ n s. planned_effects n v s) x1 x2 there (c.fetch-missing.ensures.added there.rising (low-there up roomy old low new room) left));
+          added_both _ _ x0 x1 x2 one (added_next a b _ (λ n s. planned_effects n v s) x1 x2 there (c.fetch_missing.ensures.added there.rising (low-there up roomy old low new room) left));
     }

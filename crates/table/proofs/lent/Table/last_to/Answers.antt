@@ -10,7 +10,7 @@ returns g c =
     let at = g.R.Viewable.viewed in
     let rs = entries c.args.self.now in
     let same = c.len.ensures.first in
-    let is : Rises at c.args.self.now → c.last-to.result ≡ highest at c.args.view rs = λ up. subst (λ xs. c.last-to.result ≡ highest at c.args.view xs) same (c.last-to.ensures (subst (Ascending at) (sym same) up)) in
+    let is : Rises at c.args.self.now → c.last_to.result ≡ highest at c.args.view rs = λ up. subst (λ xs. c.last_to.result ≡ highest at c.args.view xs) same (c.last_to.ensures (subst (Ascending at) (sym same) up)) in
     record {
       value = is;
       nearest = λ up. subst (Nearest at c.args.view rs) (sym (is up)) (nearest at c.args.view rs up);
