@@ -107,7 +107,7 @@ module _ (bs : List ℕ) where
       cond_both (eqb (length bs) 96) _ _ (λ (r : Result Certificate Fault). IfOk r P) (λ l.
       cond_both (zeros (part 1 7 bs)) _ _ (λ (r : Result Certificate Fault). IfOk r P) (λ z. go (eqb-true (length bs) 96 l) z (kind_of (get_or bs 0 0)) refl) (λ _. tt)) (λ _. tt)
     where
-      go : length bs ≡ 96 → zeros (part 1 7 bs) ≡ true → (k : Result Kind Fault) → kind_of (get_or bs 0 0) ≡ k → IfOk {X = Certificate} {Y = Fault} (head_read k (drop 8 bs)) P
+      go : length bs ≡ 96 → zeros (part 1 7 bs) ≡ true → (k : Result Kind Fault) → kind_of (get_or bs 0 0) ≡ k → IfOk {T = Certificate} {E = Fault} (head_read k (drop 8 bs)) P
       go l z (Err f) e = tt
       go l z (Ok k) e = cond_both (admits k (proposal_at (drop 8 bs))) _ _ (λ (r : Result Certificate Fault). IfOk r P) (λ a. all k (record { long = l; reserved = z; known = e; allowed = a })) (λ _. tt)
 

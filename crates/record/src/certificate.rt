@@ -1,8 +1,7 @@
-ghost use Rattle.std.specs.Prelude.{◌≡◌, Decides};
-ghost use Rattle.record.specs.Certificates.{header_of, proposal_in};
+ghost use Rattle.std.specs.Prelude.{◌≡◌, bytes_eq};
 ghost use Rattle.std.specs.Cmp.Rules.{comparing};
 ghost use Rattle.std.proofs.Common.{rules};
-ghost use Rattle.std.specs.Cmp as Keys;
+ghost use Rattle.record.specs.Certificates.{header_of, proposal_in};
 
 use crate::Kind;
 
@@ -18,9 +17,9 @@ pub struct Round {
 pub struct Digest(pub [u8; 32]);
 
 impl PartialEq for Digest {
-    ghost equals = { λ x y r. Decides r (x ≡ y) };
+    ghost eq = { λ x y. bytes_eq x.0 y.0 };
 
-    ghost laws = { Keys.partial_equiv_from_equiv (Prim.search (comparing, rules)) };
+    ghost laws = { Prim.search (comparing, rules) };
 
     fn eq(&self, other: &Digest) -> bool {
         self.0 == other.0
@@ -32,9 +31,9 @@ impl PartialEq for Digest {
 pub struct Proof(pub [u8; 32]);
 
 impl PartialEq for Proof {
-    ghost equals = { λ x y r. Decides r (x ≡ y) };
+    ghost eq = { λ x y. bytes_eq x.0 y.0 };
 
-    ghost laws = { Keys.partial_equiv_from_equiv (Prim.search (comparing, rules)) };
+    ghost laws = { Prim.search (comparing, rules) };
 
     fn eq(&self, other: &Proof) -> bool {
         self.0 == other.0

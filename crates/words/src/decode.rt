@@ -37,7 +37,7 @@ pub fn hex(heap: Global, word: &[u8]) -> Result<Vec<u8>, Problem>
     if word.is_empty() {
         return Err(Problem::MissingWord);
     }
-    if word == b"-" {
+    if word == b"-".as_slice() {
         return Ok(Vec::new(heap));
     }
     if !all(&Hex, word) {

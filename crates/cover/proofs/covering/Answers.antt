@@ -18,7 +18,7 @@ returns-in_default g c =
     let highest : Rises at c.args.nullifications.now → HighestCover at L v rs None = λ up. nothing_below at L v rs (to_the_end L c.args.length.positive) (told.nearest up) in
     record {
       value = λ up. ap (if_covering at L v) (told.value up);
-      highest-cover = highest;
+      highest_cover = highest;
       covered = λ up. covered_if_found at L v rs None (highest up);
       by_some_row = by_some_row at L v;
     }
@@ -36,7 +36,7 @@ returns-then-covers g c =
     let highest : Rises at c.args.nullifications.now → HighestCover at L v rs (Some r) = λ up. this_covers at L v rs c.covers.ensures.to_the_end r (told.nearest up) t in
     record {
       value = λ up. sym (cond-true (covering L (at r) v) (Some r) None t) ∙ ap (if_covering at L v) (told.value up);
-      highest-cover = highest;
+      highest_cover = highest;
       covered = λ up. covered_if_found at L v rs (Some r) (highest up);
       by_some_row = by_some_row at L v;
     }
@@ -54,7 +54,7 @@ returns-else-covers g c =
     let highest : Rises at c.args.nullifications.now → HighestCover at L v rs None = λ up. another_term at L v rs c.covers.ensures.to_the_end c.covers.ensures.covers_between r (told.nearest up) f in
     record {
       value = λ up. sym (cond-false (covering L (at r) v) (Some r) None f) ∙ ap (if_covering at L v) (told.value up);
-      highest-cover = highest;
+      highest_cover = highest;
       covered = λ up. covered_if_found at L v rs None (highest up);
       by_some_row = by_some_row at L v;
     }

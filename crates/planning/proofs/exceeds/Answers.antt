@@ -7,7 +7,7 @@ use Rattle.terms.proofs.Laws.{least_next}
 use Rattle.planning.specs.Gaps.{gaps}
 use Rattle.planning.proofs.Gaps.{gaps_none, gaps_covered, gaps_open, gaps_exactly, no_growth, same_gaps, no_gaps}
 use Rattle.planning.proofs.exceeds.Goals as goal
-use Rattle.planning.proofs.exceeds.Goals.{then-is-none+else-found-most, else-is-none}
+use Rattle.planning.proofs.exceeds.Goals.{then-is_none+else-found-most, else-is_none}
 
 pub returns-then-current-gt-LAST_VIEW : goal.returns-then-current-gt-LAST_VIEW
 returns-then-current-gt-LAST_VIEW g c =
@@ -58,13 +58,13 @@ loop-anchor-preserved g c =
     let within = c.loop-anchor-test.true in
     let moved = ap (λ v. length (gaps L cov v current)) c.following-anchor.ensures in
     elim c.if-is_none.branch [
-      | then-is-none+else-found-most w ↦ let found = w.found-is in (
+      | then-is_none+else-found-most w ↦ let found = w.found-is in (
         omega (arith, w.if-found-most.false),
         λ up. let f : cov anchor ≡ false = sym (c.covering.ensures.covered up) ∙ c.is_none.ensures ∙ ap not w.if-is_none.true in
             let one = ap length (gaps_open L positive cov anchor current within f) in
             omega (arith, c.loop-anchor.invariant.1 up),
       )
-      | else-is-none w ↦ let found = w.found-is in (
+      | else-is_none w ↦ let found = w.found-is in (
         omega arith,
         λ up. let t : cov anchor ≡ true = sym (c.covering.ensures.covered up) ∙ c.is_none.ensures ∙ ap not w.if-is_none.false in
             let same = ap length (gaps_covered L positive cov anchor current within t) in

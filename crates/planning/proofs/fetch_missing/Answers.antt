@@ -7,7 +7,7 @@ use Rattle.planning.specs.Gaps.{landing}
 use Rattle.planning.proofs.Cursors.{lands_here, lands_on, cursor_lands, no_anchor_skipped, only_anchors}
 use Rattle.planning.proofs.Fetching.{Fetched, none_fetched, fetched_all, none_left_out, past_covered, past_open}
 use Rattle.planning.proofs.fetch_missing.Goals as goal
-use Rattle.planning.proofs.fetch_missing.Goals.{then-is-none, else-is-none}
+use Rattle.planning.proofs.fetch_missing.Goals.{then-is_none, else-is_none}
 
 pub returns-then-current-gt-LAST_VIEW : goal.returns-then-current-gt-LAST_VIEW
 returns-then-current-gt-LAST_VIEW g c =
@@ -42,9 +42,9 @@ loop-anchor-preserved g c =
     let on = c.following-anchor.ensures in (
       ap (λ v. landing L v current) on ∙ lands_on L positive anchor current within ∙ c.loop-anchor.invariant.0,
       λ up. subst (λ v. Fetched L cov low current cause v before c.if-is_none.effects) (sym on) (elim c.if-is_none.branch [
-        | then-is-none w ↦ let f : cov anchor ≡ false = sym (c.covering.ensures.covered up) ∙ c.is_none.ensures ∙ ap not w.if-is_none.true in
+        | then-is_none w ↦ let f : cov anchor ≡ false = sym (c.covering.ensures.covered up) ∙ c.is_none.ensures ∙ ap not w.if-is_none.true in
             subst (λ e. Fetched L cov low current cause (next L anchor) before e) (sym w.effects-is) (past_open L positive cov low current cause anchor before here w.push.new.self within f w.push.ensures.filled (c.loop-anchor.invariant.1 up))
-        | else-is-none w ↦ let t : cov anchor ≡ true = sym (c.covering.ensures.covered up) ∙ c.is_none.ensures ∙ ap not w.if-is_none.false in
+        | else-is_none w ↦ let t : cov anchor ≡ true = sym (c.covering.ensures.covered up) ∙ c.is_none.ensures ∙ ap not w.if-is_none.false in
             subst (λ e. Fetched L cov low current cause (next L anchor) before e) (sym w.effects-is) (past_covered L positive cov low current cause anchor before here within t (c.loop-anchor.invariant.1 up))
       ]),
     )

@@ -9,5 +9,5 @@ returns c =
       value = is;
       formed = rw is (read_formed bytes);
       placed = rw is (read_placed bytes);
-      writes-back = rw is (read_written bytes c.type_inv.bytes);
+      writes_back = rw is (read_written bytes c.type_inv.bytes);
     }

@@ -14,16 +14,16 @@ pub returns-in-Notarization : goal.returns-in-Notarization
 returns-in-Notarization c =
     let e = c.frame.ensures in
     let b = framed_back _ _ _ c.in-Notarization.is e.value e.sized in
-    record { value = b.0; reads-back = b.1 }
+    record { value = b.0; reads_back = b.1 }
 
 pub returns-in-Finalization : goal.returns-in-Finalization
 returns-in-Finalization c =
     let e = c.frame-in-Finalization.ensures in
     let b = framed_back _ _ _ c.in-Finalization.is e.value e.sized in
-    record { value = b.0; reads-back = b.1 }
+    record { value = b.0; reads_back = b.1 }
 
 pub returns-in-Nullification : goal.returns-in-Nullification
 returns-in-Nullification c =
     let e = c.frame-in-Nullification.ensures in
     let b = framed_back _ _ _ c.in-Nullification.is e.value e.sized in
-    record { value = b.0; reads-back = b.1 }
+    record { value = b.0; reads_back = b.1 }
