@@ -19,39 +19,63 @@ use Rattle.state.specs.Calls.{Fixed}
 use Rattle.state.specs.States.{held, term}
 use Rattle.state.proofs.Sounds.{Rises as Rise}
 
--- what the ghost fields of a state say, in their order
+-- what the ghost fields of a state say
 abbrev pub Facts : {R : Type 0} → Store R → Bool → Type 0
-Facts s fit =
-    Rises held_view s.nullifications
-    × (Rises mark_view s.pending_notarizations
-    × (Rises held_view s.certified_notarizations
-    × (Rises mark_view s.uncertifiable_notarizations
-    × ((fit ≡ true → 0 < places s.finalization)
-    × ((fit ≡ true → 128 ≤ capacity s.nullifications)
-    × ((fit ≡ true → 128 ≤ capacity s.pending_notarizations)
-    × ((fit ≡ true → 128 ≤ capacity s.certified_notarizations)
-    × ((fit ≡ true → 128 ≤ capacity s.uncertifiable_notarizations)
-    × (length (entries s.nullifications) ≤ 128
-    × (length (entries s.pending_notarizations) ≤ 128
-    × (length (entries s.certified_notarizations) ≤ 128
-    × (length (entries s.uncertifiable_notarizations) ≤ 128
-    × (finalized (values s) ≤ s.floor
-    × (s.floor ≤ 2 ^ 62
-    × (s.current_view ≤ 2 ^ 62
-    × (((u : ℕ) → is_nullified u (values s) ≡ true → finalized (values s) < end (length_of s) u)
-    × (((u : ℕ) → is_pending u (values s) ≡ true → finalized (values s) < u)
-    × (((u : ℕ) → is_certified u (values s) ≡ true → finalized (values s) < u)
-    × (((u : ℕ) → has_failed u (values s) ≡ true → finalized (values s) < u)
-    × ((s.replaying ≡ true → s.cursor ≡ 0)
-    × ((s.replaying ≡ false → s.cursor ≡ landing (length_of s) (s.floor + 1) s.current_view)
-    × ((s.replaying ≡ false → length (gaps_of (length_of s) (values s)) ≤ 128)
-    × Unit {0}))))))))))))))))))))))
+Facts s fit = record {
+  nullifications_rise : Rises held_view s.nullifications;
+  pending_rise : Rises mark_view s.pending_notarizations;
+  certified_rise : Rises held_view s.certified_notarizations;
+  failed_rise : Rises mark_view s.uncertifiable_notarizations;
+  finalization_fits : fit ≡ true → 0 < places s.finalization;
+  nullifications_fit : fit ≡ true → 128 ≤ capacity s.nullifications;
+  pending_fit : fit ≡ true → 128 ≤ capacity s.pending_notarizations;
+  certified_fit : fit ≡ true → 128 ≤ capacity s.certified_notarizations;
+  failed_fit : fit ≡ true → 128 ≤ capacity s.uncertifiable_notarizations;
+  nullifications_few : length (entries s.nullifications) ≤ 128;
+  pending_few : length (entries s.pending_notarizations) ≤ 128;
+  certified_few : length (entries s.certified_notarizations) ≤ 128;
+  failed_few : length (entries s.uncertifiable_notarizations) ≤ 128;
+  floor_finalized : finalized (values s) ≤ s.floor;
+  floor_low : s.floor ≤ 2 ^ 62;
+  current_low : s.current_view ≤ 2 ^ 62;
+  nullifications_open : (u : ℕ) → is_nullified u (values s) ≡ true → finalized (values s) < end (length_of s) u;
+  pending_above : (u : ℕ) → is_pending u (values s) ≡ true → finalized (values s) < u;
+  certified_above : (u : ℕ) → is_certified u (values s) ≡ true → finalized (values s) < u;
+  failed_above : (u : ℕ) → has_failed u (values s) ≡ true → finalized (values s) < u;
+  cursor_first : s.replaying ≡ true → s.cursor ≡ 0;
+  cursor_lands : s.replaying ≡ false → s.cursor ≡ landing (length_of s) (s.floor + 1) s.current_view;
+  gaps_few : s.replaying ≡ false → length (gaps_of (length_of s) (values s)) ≤ 128;
+}
 
 pub facts : {R : Type 0} (s : Store R) (fit : Bool) → Rising s → (fit ≡ true → Roomy s) → Lawful (length_of s) (values s) → Facts s fit
 facts s fit up roomy ok =
     let a = ok.sound in
     let p = ok.planned in
-    (up.nullifications, (up.pending, (up.certified, (up.failed, ((λ t. (roomy t).finalization), ((λ t. (roomy t).nullifications), ((λ t. (roomy t).pending), ((λ t. (roomy t).certified), ((λ t. (roomy t).failed), (a.nullifications_few, (a.pending_few, (a.certified_few, (a.failed_few, (a.floor_finalized, (a.floor_low, (a.current_low, (a.nullifications_open, (a.pending_above, (a.certified_above, (a.failed_above, (p.cursor_first, (p.cursor_lands, (p.gaps_few, tt)))))))))))))))))))))))
+    record {
+      nullifications_rise = up.nullifications;
+      pending_rise = up.pending;
+      certified_rise = up.certified;
+      failed_rise = up.failed;
+      finalization_fits = λ t. (roomy t).finalization;
+      nullifications_fit = λ t. (roomy t).nullifications;
+      pending_fit = λ t. (roomy t).pending;
+      certified_fit = λ t. (roomy t).certified;
+      failed_fit = λ t. (roomy t).failed;
+      nullifications_few = a.nullifications_few;
+      pending_few = a.pending_few;
+      certified_few = a.certified_few;
+      failed_few = a.failed_few;
+      floor_finalized = a.floor_finalized;
+      floor_low = a.floor_low;
+      current_low = a.current_low;
+      nullifications_open = a.nullifications_open;
+      pending_above = a.pending_above;
+      certified_above = a.certified_above;
+      failed_above = a.failed_above;
+      cursor_first = p.cursor_first;
+      cursor_lands = p.cursor_lands;
+      gaps_few = p.gaps_few;
+    }
 
 module _ {R : Type 0} (s : State R) where
   pub rising_of : Rising s.store

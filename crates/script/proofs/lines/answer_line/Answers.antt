@@ -22,61 +22,61 @@ returns-in-Nothing c =
     let m1 : command_of (word_at 0 bs) ≡ Ok Nothing = cc in
     go_on _ m1
 
-pub returns-in_err-run_term : goal.returns-in_err-run_term
+pub returns-in_err-run_term-in-Term : goal.returns-in_err-run_term-in-Term
 unfolding text_run
-returns-in_err-run_term c =
+returns-in_err-run_term-in-Term c =
     let bs = take (until 35 c.args.line.now) c.args.line.now in
     let k1 = c.in_ok-named.ensures in
     let m1 : command_of (word_at 0 bs) ≡ Ok Term = cc in
-    let k2 = c.in_err-run_term.ensures in
-    let m2 : term_run (after_words 1 bs) ≡ Err c.in_err-run_term.field-0.0 = cc in
-    rw (exit_is _ _ c.from_residual-in_err-run_term.ensures.1) (inr (go_on _ m1 ∙ stopped _ m2))
+    let k2 = c.in_err-run_term-in-Term.ensures in
+    let m2 : term_run (after_words 1 bs) ≡ Err c.in_err-run_term-in-Term.field-0.0 = cc in
+    rw (exit_is _ _ c.from_residual-in_err-run_term-in-Term.ensures.1) (inr (go_on _ m1 ∙ stopped _ m2))
 
-pub returns-in_ok-run_term : goal.returns-in_ok-run_term
+pub returns-in_ok-run_term-in-Term : goal.returns-in_ok-run_term-in-Term
 unfolding text_run
-returns-in_ok-run_term c =
+returns-in_ok-run_term-in-Term c =
     let bs = take (until 35 c.args.line.now) c.args.line.now in
     let k1 = c.in_ok-named.ensures in
     let m1 : command_of (word_at 0 bs) ≡ Ok Term = cc in
-    let k2 = c.in_ok-run_term.ensures in
-    let m2 : term_run (after_words 1 bs) ≡ Ok c.in_ok-run_term.field-0 = cc in
+    let k2 = c.in_ok-run_term-in-Term.ensures in
+    let m2 : term_run (after_words 1 bs) ≡ Ok c.in_ok-run_term-in-Term.field-0 = cc in
     go_on _ m1 ∙ go_on _ m2
 
-pub returns-in_err-run_covers : goal.returns-in_err-run_covers
+pub returns-in_err-run_covers-in-Covers : goal.returns-in_err-run_covers-in-Covers
 unfolding text_run
-returns-in_err-run_covers c =
+returns-in_err-run_covers-in-Covers c =
     let bs = take (until 35 c.args.line.now) c.args.line.now in
     let k1 = c.in_ok-named.ensures in
     let m1 : command_of (word_at 0 bs) ≡ Ok Covers = cc in
-    let k2 = c.in_err-run_covers.ensures in
-    let m2 : covers_run (after_words 1 bs) ≡ Err c.in_err-run_covers.field-0.0 = cc in
-    rw (exit_is _ _ c.from_residual-in_err-run_covers.ensures.1) (inr (go_on _ m1 ∙ stopped _ m2))
+    let k2 = c.in_err-run_covers-in-Covers.ensures in
+    let m2 : covers_run (after_words 1 bs) ≡ Err c.in_err-run_covers-in-Covers.field-0.0 = cc in
+    rw (exit_is _ _ c.from_residual-in_err-run_covers-in-Covers.ensures.1) (inr (go_on _ m1 ∙ stopped _ m2))
 
-pub returns-in_ok-run_covers : goal.returns-in_ok-run_covers
+pub returns-in_ok-run_covers-in-Covers : goal.returns-in_ok-run_covers-in-Covers
 unfolding text_run
-returns-in_ok-run_covers c =
+returns-in_ok-run_covers-in-Covers c =
     let bs = take (until 35 c.args.line.now) c.args.line.now in
     let k1 = c.in_ok-named.ensures in
     let m1 : command_of (word_at 0 bs) ≡ Ok Covers = cc in
-    let k2 = c.in_ok-run_covers.ensures in
-    let m2 : covers_run (after_words 1 bs) ≡ Ok c.in_ok-run_covers.field-0 = cc in
+    let k2 = c.in_ok-run_covers-in-Covers.ensures in
+    let m2 : covers_run (after_words 1 bs) ≡ Ok c.in_ok-run_covers-in-Covers.field-0 = cc in
     go_on _ m1 ∙ go_on _ m2
 
-pub returns-in_err-run_read : goal.returns-in_err-run_read
+pub returns-in_err-run_read-in-Read : goal.returns-in_err-run_read-in-Read
 unfolding text_run
-returns-in_err-run_read c =
+returns-in_err-run_read-in-Read c =
     let bs = take (until 35 c.args.line.now) c.args.line.now in
     let k1 = c.in_ok-named.ensures in
     let m1 : command_of (word_at 0 bs) ≡ Ok Read = cc in
     let rest : after_words 1 bs ≡ c.after-rest.result.now = cc in
-    rw (exit_is _ _ c.from_residual-in_err-run_read.ensures.1) (⊎_elim inl (λ k. inr (go_on _ m1 ∙ stopped _ (ap read_run rest ∙ k))) c.in_err-run_read.ensures)
+    rw (exit_is _ _ c.from_residual-in_err-run_read-in-Read.ensures.1) (⊎_elim inl (λ k. inr (go_on _ m1 ∙ stopped _ (ap read_run rest ∙ k))) c.in_err-run_read-in-Read.ensures)
 
-pub returns-in_ok-run_read : goal.returns-in_ok-run_read
+pub returns-in_ok-run_read-in-Read : goal.returns-in_ok-run_read-in-Read
 unfolding text_run
-returns-in_ok-run_read c =
+returns-in_ok-run_read-in-Read c =
     let bs = take (until 35 c.args.line.now) c.args.line.now in
     let k1 = c.in_ok-named.ensures in
     let m1 : command_of (word_at 0 bs) ≡ Ok Read = cc in
-    let k2 = c.in_ok-run_read.ensures in
-    let m2 : read_run (after_words 1 bs) ≡ Ok c.in_ok-run_read.field-0 = cc in
+    let k2 = c.in_ok-run_read-in-Read.ensures in
+    let m2 : read_run (after_words 1 bs) ≡ Ok c.in_ok-run_read-in-Read.field-0 = cc in
     go_on _ m1 ∙ go_on _ m2
