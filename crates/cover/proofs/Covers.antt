@@ -1,6 +1,6 @@
 -- From the nearest row to the one that covers.
-use Rattle.std.proofs.Common.{◌≡◌, ℕ, Bool, true, false, cond, ◌||◌, eqb, ◌⊎◌, List, [], ◌∷◌, is_some, Some, None, Option, sym, refl, ap, ◌∙◌, subst, inl, inr}
-use Rattle.std.proofs.lemmas.Bool.{both_ways, true≢false, cases_Bool, cases_eq, cases_lt, cond-true, cond-false, eq-eqb, eqb-true, or_left, or_right, or_cases, or_from}
+use Rattle.std.proofs.Common.{◌≡◌, ℕ, true, false, eqb, List, [], ◌∷◌, is_some, Some, None, Option, sym, refl, ap, ◌∙◌, inl, inr}
+use Rattle.std.proofs.lemmas.Bool.{both_ways, true≢false, cases_Bool, cases_lt, cond-true, cond-false, eq-eqb, eqb-true, or_left, or_right, or_cases}
 use Rattle.table.specs.Laws.{Nearest}
 use Rattle.table.specs.Rows.{lookup, holds}
 use Rattle.terms.specs.Laws.{ToTheEnd, CoversBetween}

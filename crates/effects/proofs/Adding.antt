@@ -1,10 +1,10 @@
 -- Effects that come one after the other.
-use Rattle.std.proofs.Common.{◌≡◌, ℕ, ◌+◌, ◌-◌, ◌<◌, ◌≤◌, ◌⊎◌, List, [], ◌∷◌, ◌++◌, length, take, drop, set, sym, refl, ap, ◌∙◌, inl, inr, arith}
+use Rattle.std.proofs.Common.{◌≡◌, ℕ, ◌+◌, ◌-◌, ◌<◌, ◌≤◌, List, [], ◌∷◌, ◌++◌, length, take, drop, set, sym, refl, ap, ◌∙◌, inl, inr, arith}
 use Rattle.std.proofs.lemmas.List.{append-nil, append_assoc, length-append, length-set, length_push, length-take, length-take-le, take_all, take-take, take-append-le, take_more_set, drop-drop, drop-set-lt}
 use Rattle.std.proofs.lemmas.Bool.{cases_lt}
 use Rattle.effects.specs.declared.effect.Effect.{Effect}
 use Rattle.effects.specs.declared.listed.Effects.{Effects}
-use Rattle.effects.specs.Lists.{entries, places, from, Added, NothingAdded, AddedBoth, Filled, NothingFilled, FilledBoth, AllFilled, Listed, ListedFrom}
+use Rattle.effects.specs.Lists.{entries, places, from, Added, NothingAdded, AddedBoth, Filled, NothingFilled, FilledBoth, AllFilled, ListedFrom}
 
 pub nothing_added : NothingAdded
 nothing_added e = record { stand = sym (append-nil (entries e)); rest = refl; room = refl }

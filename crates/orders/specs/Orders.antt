@@ -1,5 +1,5 @@
 -- The orders of a script, by the bytes of their records.
-use Rattle.std.specs.Prelude.{ℕ, Bool, List, Ok, Err, vec_items, Result}
+use Rattle.std.specs.Prelude.{ℕ, Bool, List, Ok, vec_items, Result}
 use Rattle.effects.specs.declared.effect.Kind.{Kind}
 use Rattle.orders.specs.Names.{name_of, verdict_of, kind_of}
 use Rattle.orders.specs.declared.naming.Name.{Name}

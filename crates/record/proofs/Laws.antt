@@ -1,9 +1,9 @@
 -- Reading and writing undo each other, and what is read stands at its place.
-use Rattle.std.proofs.Common.{◌≡◌, ℕ, ◌+◌, ◌^◌, ◌<◌, ◌≤◌, Bool, true, false, cond, ◌&&◌, eqb, List, [], ◌∷◌, ◌++◌, length, get_or, take, drop, replicate, is_ok, IfOk, Ok, Err, Decides, Result, sym, refl, ap, ◌∙◌, inl, inr, arith, Fits-lit, w8, Fits}
+use Rattle.std.proofs.Common.{◌≡◌, ℕ, ◌+◌, ◌≤◌, true, eqb, List, ◌∷◌, ◌++◌, length, get_or, take, drop, replicate, is_ok, IfOk, Ok, Err, Decides, Result, sym, refl, ap, ◌∙◌, inl, inr, arith, Fits-lit, w8, Fits}
 use Rattle.std.proofs.lemmas.List.{drop-drop, get_or-drop, get_or_past, get_or-take, length-append, length-drop, length-take, length-take-le}
 use Rattle.std.proofs.lemmas.Bool.{cond_both, cond-true, cases_lt, eq-eqb, eqb-true, and_parts, and_from, false≢true}
 use Rattle.record.specs.Certificates.{kind_in, proposal_in, proof_in, Sized, framed, written}
-use Rattle.record.specs.Format.{proposal_at, proof_at, blank, admits, certificate, body_read, head_read, reading, Formed, Placed}
+use Rattle.record.specs.Format.{proposal_at, proof_at, admits, certificate, head_read, reading, Formed, Placed}
 use Rattle.record.specs.Kinds.{kind_of, byte_of}
 use Rattle.record.specs.Numbers.{part, number, bytes_of, zeros}
 use Rattle.record.specs.declared.certificate.Certificate.{Certificate}
@@ -13,7 +13,7 @@ use Rattle.record.specs.declared.certificate.Proposal.{Proposal}
 use Rattle.record.specs.declared.fault.Fault.{Fault}
 use Rattle.record.specs.declared.kind.Kind.{Kind}
 use Rattle.record.specs.declared.kind.Kind.TheVariants as kind
-use Rattle.record.proofs.Frames.{joined, headed, parted, Parted}
+use Rattle.record.proofs.Frames.{joined, headed, parted}
 use Rattle.record.proofs.Numbers.{length_bytes, number_bytes, bytes_number, zeros_are}
 
 -- what a certificate that was made holds

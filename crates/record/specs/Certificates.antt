@@ -1,5 +1,5 @@
 -- What a certificate says, and the bytes that it is written as.
-use Rattle.std.specs.Prelude.{◌≡◌, ℕ, ◌^◌, ◌<◌, List, [], ◌∷◌, ◌++◌, length, replicate}
+use Rattle.std.specs.Prelude.{◌≡◌, ℕ, ◌^◌, ◌<◌, List, ◌∷◌, ◌++◌, length, replicate}
 use Rattle.record.specs.Kinds.{byte_of}
 use Rattle.record.specs.Numbers.{bytes_of}
 use Rattle.record.specs.declared.certificate.Certificate.{Certificate}

@@ -1,5 +1,5 @@
 -- The format of a record, and what is read from bytes.
-use Rattle.std.specs.Prelude.{◌≡◌, ℕ, Bool, true, cond, not, ◌&&◌, List, [], ◌∷◌, length, drop, is_ok, Some, None, Ok, Err, Option, Result, ◌==◌, slice_index, slice_index_or}
+use Rattle.std.specs.Prelude.{◌≡◌, ℕ, Bool, true, cond, ◌&&◌, List, length, drop, is_ok, Ok, Err, Result, ◌==◌, slice_index, slice_index_or}
 use Rattle.record.specs.Certificates.{kind_in, proposal_in, proof_in}
 use Rattle.record.specs.Kinds.{kind_of}
 use Rattle.record.specs.Numbers.{part, number, zeros}

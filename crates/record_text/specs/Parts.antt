@@ -1,5 +1,5 @@
 -- The bytes of a record's text.
-use Rattle.std.specs.Prelude.{ℕ, cond, List, ◌++◌, replicate, Ok, Err, codes, Result}
+use Rattle.std.specs.Prelude.{ℕ, cond, List, ◌++◌, replicate, Ok, codes, Result}
 use Rattle.std.specs.Option.{unwrap_or}
 use Rattle.std.specs.Str.{bytes_eq}
 use Rattle.record.specs.Certificates.{framed}

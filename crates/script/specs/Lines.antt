@@ -1,5 +1,5 @@
 -- What a line answers.
-use Rattle.std.specs.Prelude.{ℕ, List, take, Some, None, Ok, Err, Option, Result}
+use Rattle.std.specs.Prelude.{ℕ, List, take, Some, None, Ok, Option, Result}
 use Rattle.record_text.specs.Parts.{record_of}
 use Rattle.script.specs.Answers.{term_answer, covers_answer, read_answer}
 use Rattle.script.specs.Commands.{command_of}

@@ -1,13 +1,12 @@
 -- The gaps that would stand after evidence, told before it is recorded.
-use Rattle.std.proofs.Common.{◌≡◌, ℕ, ◌+◌, ◌<◌, ◌≤◌, max, Bool, true, false, cond, not, ◌&&◌, ltb, ◌⊎◌, length, sym, refl, ap, ◌∙◌, subst, inl, inr, arith}
-use Rattle.std.proofs.lemmas.Bool.{cases_Bool, cond_both, ltb-true, ltb-false, both_ways}
+use Rattle.std.proofs.Common.{◌≡◌, ℕ, ◌+◌, ◌<◌, ◌≤◌, max, Bool, true, false, cond, not, ◌&&◌, ltb, length, sym, refl, ap, ◌∙◌, inl, inr, arith}
+use Rattle.std.proofs.lemmas.Bool.{cond_both, ltb-false}
 use Rattle.cover.specs.Covers.{covered}
 use Rattle.planning.specs.Gaps.{gaps}
 use Rattle.planning.proofs.Gaps.{same_gaps, no_gaps}
 use Rattle.record.specs.declared.kind.Kind.{Kind}
 use Rattle.record.specs.declared.kind.Kind.TheVariants.{Notarization, Nullification, Finalization}
-use Rattle.table.specs.Rows.{holds, with_row}
-use Rattle.terms.specs.Terms.{covering}
+use Rattle.table.specs.Rows.{with_row}
 use Rattle.terms.proofs.Laws.{to_the_end}
 use Rattle.store.specs.declared.held.Held.{Held}
 use Rattle.store.specs.Values.{Values, held_view, is_nullified, is_covered, gaps_of}

@@ -1,5 +1,5 @@
 -- What stays covered.
-use Rattle.std.proofs.Common.{◌≡◌, ℕ, ◌<◌, ◌≤◌, true, List}
+use Rattle.std.proofs.Common.{◌≡◌, ℕ, ◌<◌, true, List}
 use Rattle.cover.specs.Covers.{covered}
 use Rattle.cover.proofs.Covers.{by_some_row}
 use Rattle.planning.specs.Laws.{Extends}

@@ -1,21 +1,20 @@
 -- What evidence, a verdict and the marker leave: a lawful state, and the promises kept.
-use Rattle.std.proofs.Common.{◌≡◌, ℕ, ◌+◌, ◌^◌, ◌<◌, ◌≤◌, max, Bool, true, false, not, ◌&&◌, ◌||◌, ltb, leb, ◌⊎◌, List, [], ◌∷◌, ◌++◌, map, length, Ok, sym, refl, ap, ◌∙◌, subst, inl, inr, arith}
+use Rattle.std.proofs.Common.{◌≡◌, ℕ, ◌+◌, ◌^◌, ◌<◌, ◌≤◌, max, Bool, true, false, not, ◌&&◌, ◌||◌, ltb, leb, ◌∷◌, map, length, Ok, sym, refl, ap, ◌∙◌, subst, inl, inr, arith}
 use Rattle.std.proofs.lemmas.List.Filters.{length-filter_both}
 use Rattle.std.proofs.lemmas.List.{length-append, length-map}
-use Rattle.std.proofs.lemmas.Bool.{true≢false, both_ways, cases_Bool, cases_lt, and_from, and_parts, and_cases, lt-ltb, ltb-false, lt-leb, leb-false, not-true, not_from_false, cond-false}
-use Rattle.effects.specs.declared.effect.Effect.{Effect}
+use Rattle.std.proofs.lemmas.Bool.{true≢false, both_ways, cases_Bool, cases_lt, and_cases, lt-ltb, ltb-false, leb-false, not_from_false}
 use Rattle.planning.specs.Gaps.{among, plan_start, gaps, landing}
 use Rattle.planning.proofs.Cursors.{cursor_lands}
 use Rattle.planning.proofs.Gaps.{gaps_exactly}
 use Rattle.record.specs.declared.kind.Kind.{Kind}
 use Rattle.record.specs.declared.kind.Kind.TheVariants.{Notarization, Nullification, Finalization}
 use Rattle.store.specs.declared.held.Held.{Held}
-use Rattle.store.specs.Values.{Values, mark_view, finalized, is_covered, gaps_of, unplanned}
+use Rattle.store.specs.Values.{Values, mark_view, is_covered, gaps_of, unplanned}
 use Rattle.store.specs.Room.{row_due, rows_held, Room, verdict_due, verdict_rows, VerdictRoom}
 use Rattle.store.specs.Steps.{settles, failed_fetch, taken_effects, seen, nullified, notarized, finalized_at, pruned, raised, finalization_taken, before_planning, planned, planned_effects, updated, updated_effects, raised_effects, judged, certified_at, passing, passed, failed_at, failing, failing_effects, certified, certified_effects, ended, replayed, replayed_effects, is_bare, failed_bare}
 use Rattle.state.specs.Answers.{Answer, refused_if, gaps_over, evidence_answer, is_notarization, verdict_answer, marker_answer}
-use Rattle.state.specs.Lawful.{Sound, Planned, Lawful}
-use Rattle.state.specs.Laws.{fetched, is_gap, StillOpen, Promises, NoNullificationSettled, NotarizationSettlesNoNullification, EveryGapAsked}
+use Rattle.state.specs.Lawful.{Sound, Lawful}
+use Rattle.state.specs.Laws.{fetched, Promises, NoNullificationSettled, NotarizationSettlesNoNullification, EveryGapAsked}
 use Rattle.state.specs.declared.fault.Fault.{Fault}
 use Rattle.state.specs.declared.fault.Fault.TheVariants.{NotANotarization}
 use Rattle.state.proofs.Fetches.{fetched_append, fetched_after, taken_none, raised_none, failing_none, planned_fetches, none_failed}

@@ -1,5 +1,5 @@
 -- The facts of a state, from what is known of its store, and back.
-use Rattle.std.proofs.Common.{◌≡◌, ℕ, ◌+◌, ◌^◌, ◌<◌, ◌≤◌, Bool, true, false, [], length, is_some, sym, refl, ap, ◌∙◌, subst, arith}
+use Rattle.std.proofs.Common.{◌≡◌, ℕ, ◌+◌, ◌^◌, ◌<◌, ◌≤◌, Bool, true, false, [], length, is_some, sym, refl, ap, subst, arith}
 use Rattle.planning.specs.Gaps.{landing}
 use Rattle.slot.specs.Slots.{places}
 use Rattle.table.specs.Tables.{entries, capacity, Rises}
@@ -10,12 +10,11 @@ use Rattle.store.specs.declared.store.Store.{Store}
 use Rattle.store.specs.Fresh.{fresh}
 use Rattle.effects.specs.declared.listed.Effects.{Effects}
 use Rattle.effects.specs.Lists as list
-use Rattle.store.specs.Ready.{length_of, Rising, Roomy, Low, Kept, Turned, HasRoom}
+use Rattle.store.specs.Ready.{length_of, Rising, Roomy, Low, Turned, HasRoom}
 use Rattle.store.proofs.Turns.{roomy_kept}
 use Rattle.store.specs.Values.{Values, values, held_view, mark_view, finalized, is_nullified, is_pending, is_certified, has_failed, gaps_of}
 use Rattle.state.specs.declared.state.State.{State}
-use Rattle.state.specs.Lawful.{Sound, Planned, Lawful}
-use Rattle.state.specs.Calls.{Fixed}
+use Rattle.state.specs.Lawful.{Lawful}
 use Rattle.state.specs.States.{held, term}
 use Rattle.state.proofs.Sounds.{Rises as Rise}
 

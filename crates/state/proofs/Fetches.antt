@@ -2,15 +2,15 @@
 use Rattle.std.proofs.Common.{◌≡◌, ℕ, Bool, true, false, cond, ◌||◌, eqb, ltb, List, [], ◌∷◌, ◌++◌, map, sym, refl, ap, ◌∙◌}
 use Rattle.std.proofs.lemmas.Bool.{cond_both, or_from}
 use Rattle.effects.specs.declared.effect.Effect.{Effect}
-use Rattle.effects.specs.declared.effect.Effect.TheVariants.{Settled, Raised, Finalized}
+use Rattle.effects.specs.declared.effect.Effect.TheVariants.{Settled, Raised}
 use Rattle.effects.specs.declared.effect.Kind.TheVariants as ask
 use Rattle.planning.specs.Gaps.{among, missing}
 use Rattle.record.specs.declared.kind.Kind.{Kind}
 use Rattle.record.specs.declared.kind.Kind.TheVariants.{Notarization, Nullification, Finalization}
 use Rattle.terms.specs.Terms.{end}
 use Rattle.store.specs.declared.held.Held.{Held}
-use Rattle.store.specs.Values.{Values, finalized, unplanned}
-use Rattle.store.specs.Steps.{settles, failed_fetch, nullification_counts, nullified_effects, notarization_counts, notarized_effects, finalized_at, finalization_effects, raised_effects, taken_effects, planned_effects, is_bare, failing_effects, failed_bare}
+use Rattle.store.specs.Values.{Values, unplanned}
+use Rattle.store.specs.Steps.{settles, failed_fetch, nullification_counts, nullified_effects, notarization_counts, notarized_effects, finalization_effects, raised_effects, taken_effects, planned_effects, is_bare, failing_effects}
 use Rattle.state.specs.Laws.{fetches_gap, fetched}
 
 or_assoc : (x y z : Bool) → ((x || y) || z) ≡ (x || (y || z))

@@ -1,17 +1,17 @@
 -- What a change of floor, highest view, cursor and covers makes of the gaps.
-use Rattle.std.proofs.Common.{◌≡◌, ℕ, ◌+◌, ◌<◌, ◌≤◌, min, max, Bool, true, false, cond, ◌⊎◌, List, [], ◌∷◌, map, length, Decides, sym, refl, ap, ◌∙◌, subst, inl, inr, arith}
+use Rattle.std.proofs.Common.{◌≡◌, ℕ, ◌+◌, ◌<◌, ◌≤◌, min, true, false, List, [], map, length, sym, ap, ◌∙◌, subst, inl, inr, arith}
 use Rattle.std.proofs.lemmas.List.{length-map}
 use Rattle.std.proofs.lemmas.Bool.{both_ways, cases_Bool, cond-true, cond-false, cond_both}
 use Rattle.effects.specs.declared.effect.Effect.{Effect}
-use Rattle.planning.specs.Gaps.{among, missing, plan_start, gaps, landing, pulled}
-use Rattle.planning.specs.Laws.{Anchor, Moved}
+use Rattle.planning.specs.Gaps.{among, missing, plan_start, gaps, pulled}
+use Rattle.planning.specs.Laws.{Moved}
 use Rattle.planning.proofs.Gaps.{gaps_exactly, no_growth}
 use Rattle.planning.proofs.Cursors.{cursor_lands, no_anchor_skipped, only_anchors}
 use Rattle.terms.specs.Terms.{is_start}
 use Rattle.store.specs.Values.{Values, held_view, is_covered, gaps_of, unplanned}
 use Rattle.store.specs.Steps.{planned, planned_effects}
 use Rattle.state.specs.Lawful.{Planned}
-use Rattle.state.specs.Laws.{fetched, is_gap, StillOpen, NoGapUnasked, GapsDoNotGrow, TailAsked}
+use Rattle.state.specs.Laws.{fetched, NoGapUnasked, GapsDoNotGrow, TailAsked}
 use Rattle.state.proofs.Covers.{extends}
 
 -- a change before planning

@@ -1,15 +1,15 @@
 -- What is settled stays settled, and what is dropped is finalized.
-use Rattle.std.proofs.Common.{◌≡◌, ℕ, ◌<◌, ◌≤◌, Bool, true, false, cond, not, ◌&&◌, ◌||◌, ltb, leb, ◌⊎◌, List, is_some, Some, sym, refl, ap, ◌∙◌, subst, inl, inr, arith}
+use Rattle.std.proofs.Common.{◌≡◌, ℕ, ◌<◌, ◌≤◌, true, cond, not, ◌&&◌, ◌||◌, ltb, leb, is_some, Some, sym, refl, ap, ◌∙◌, subst, inl, inr, arith}
 use Rattle.std.proofs.lemmas.Bool.{cases_Bool, cases_lt, cases_eq, cond_both, ltb-true, ltb-false, lt-ltb, leb-true, le-leb, or_cases, or_left, or_right, and_parts, not-true}
 use Rattle.effects.specs.declared.effect.Kind.{Kind as Ask}
 use Rattle.effects.specs.declared.effect.Kind.TheVariants as ask
 use Rattle.record.specs.declared.kind.Kind.{Kind}
 use Rattle.record.specs.declared.kind.Kind.TheVariants.{Notarization, Nullification, Finalization}
 use Rattle.table.specs.Rows.{lookup, holds, with_row}
-use Rattle.terms.specs.Terms.{end, covering}
+use Rattle.terms.specs.Terms.{end}
 use Rattle.store.specs.declared.held.Held.{Held}
-use Rattle.store.specs.Values.{Values, mark, mark_view, held_view, view_of, finalized, is_nullified, is_pending, is_certified, has_failed, is_covered}
-use Rattle.store.specs.Steps.{first_kept, nullification_counts, nullified, notarization_counts, awaiting, notarized, finalized_at, pruned, raised, finalization_taken, seen, before_planning, planned, judged, certified_at, passing, passed, failed_at, failing, ended}
+use Rattle.store.specs.Values.{Values, mark, mark_view, held_view, view_of, finalized, is_nullified, is_pending, is_certified, has_failed}
+use Rattle.store.specs.Steps.{nullification_counts, nullified, notarization_counts, notarized, finalized_at, pruned, raised, finalization_taken, before_planning, planned, judged, certified_at, passing, passed, failed_at, failing, ended}
 use Rattle.state.specs.Lawful.{Sound}
 use Rattle.state.specs.Settled.{answered, settled}
 use Rattle.state.specs.Laws.{SettledOnlyGrows, DroppedOnlyWhenFinalized, NoNullificationSettled}

@@ -1,16 +1,16 @@
 -- Each step keeps a state sound.
-use Rattle.std.proofs.Common.{◌≡◌, ℕ, ◌+◌, ◌^◌, ◌<◌, ◌≤◌, max, Bool, true, false, cond, not, ◌&&◌, ltb, ◌⊎◌, List, length, Some, None, sym, refl, ap, ◌∙◌, subst, inl, inr, arith}
-use Rattle.std.proofs.lemmas.Bool.{cond_both, ltb-true, ltb-false, and_parts, and_from, not-true, not_from_false}
+use Rattle.std.proofs.Common.{◌≡◌, ℕ, ◌^◌, ◌<◌, ◌≤◌, max, true, false, cond, not, ◌&&◌, ltb, length, Some, sym, subst, inl, inr, arith}
+use Rattle.std.proofs.lemmas.Bool.{cond_both, ltb-true, ltb-false, and_parts, and_from, not_from_false}
 use Rattle.record.specs.declared.kind.Kind.{Kind}
 use Rattle.record.specs.declared.kind.Kind.TheVariants.{Notarization, Nullification, Finalization}
-use Rattle.table.specs.Rows.{Ascending, holds, with_row, without, kept}
+use Rattle.table.specs.Rows.{Ascending, holds, with_row}
 use Rattle.terms.specs.Terms.{end}
 use Rattle.store.specs.declared.held.Held.{Held}
-use Rattle.store.specs.Values.{Values, mark, mark_view, held_view, view_of, finalized, with_current, is_nullified, is_pending, is_certified, has_failed}
-use Rattle.store.specs.Room.{row_due, rows_held, Room, VerdictRoom}
-use Rattle.store.specs.Steps.{first_kept, nullification_counts, nullified, notarization_counts, awaiting, notarized, finalized_at, pruned, raised, finalization_taken, taken, seen, before_planning, planned, judged, certified_at, passing, passed, failed_at, failing, certified, ended, replayed}
+use Rattle.store.specs.Values.{Values, mark, mark_view, held_view, view_of, finalized, is_nullified, is_certified, has_failed}
+use Rattle.store.specs.Room.{Room, VerdictRoom}
+use Rattle.store.specs.Steps.{first_kept, nullification_counts, nullified, notarization_counts, awaiting, notarized, finalized_at, pruned, raised, finalization_taken, seen, before_planning, planned, judged, certified_at, passing, passed, failed_at, failing, ended}
 use Rattle.state.specs.Lawful.{Sound}
-use Rattle.state.proofs.Growing.{guarded, grown, grown_holds, grown_from, grown_few, kept_from, kept_few, without_from, without_few}
+use Rattle.state.proofs.Growing.{guarded, grown, grown_from, grown_few, kept_from, kept_few, without_from, without_few}
 
 -- the views of each list rise
 pub record Rises {R : Type 0} (s : Values R) : Type 0 where

@@ -1,16 +1,15 @@
 -- How each call moves floor, cursor and covers.
-use Rattle.std.proofs.Common.{◌≡◌, ℕ, ◌+◌, ◌<◌, ◌≤◌, min, max, Bool, true, false, cond, not, ◌&&◌, ltb, ◌⊎◌, Some, sym, refl, ap, ◌∙◌, subst, inl, inr, arith}
+use Rattle.std.proofs.Common.{◌≡◌, ℕ, ◌+◌, ◌<◌, ◌≤◌, min, true, false, cond, not, ◌&&◌, ltb, ◌⊎◌, Some, sym, refl, subst, inl, inr, arith}
 use Rattle.std.proofs.lemmas.Bool.{cases_Bool, cond_both, ltb-true, lt-ltb}
 use Rattle.planning.specs.Gaps.{pulled}
-use Rattle.planning.specs.Laws.{Moved}
 use Rattle.record.specs.declared.kind.Kind.{Kind}
 use Rattle.record.specs.declared.kind.Kind.TheVariants.{Notarization, Nullification, Finalization}
 use Rattle.table.specs.Rows.{holds, with_row}
 use Rattle.terms.specs.Terms.{end, is_start}
 use Rattle.terms.proofs.Laws.{to_the_end}
 use Rattle.store.specs.declared.held.Held.{Held}
-use Rattle.store.specs.Values.{Values, held_view, view_of, finalized, is_nullified, is_covered}
-use Rattle.store.specs.Steps.{first_kept, nullification_counts, nullified, notarized, finalized_at, pruned, raised, finalization_taken, seen, before_planning, judged, certified_at, passing, passed, ended}
+use Rattle.store.specs.Values.{Values, held_view, view_of, finalized, is_nullified}
+use Rattle.store.specs.Steps.{nullification_counts, nullified, notarized, finalized_at, pruned, raised, finalization_taken, before_planning, certified_at, passing, passed, ended}
 use Rattle.state.proofs.Covers.{stays_covered}
 use Rattle.state.proofs.Moves.{Step}
 use Rattle.state.proofs.Growing.{guarded, grown_holds, kept_holds}

@@ -1,5 +1,5 @@
 -- One test after the other.
-use Rattle.std.proofs.Common.{◌≡◌, Bool, true, false, Ok, Err, sym, ap, ◌∙◌}
+use Rattle.std.proofs.Common.{◌≡◌, Bool, true, false, Err, sym, ap, ◌∙◌}
 use Rattle.state.specs.Answers.{Answer, refused_if}
 use Rattle.state.specs.declared.fault.Fault.{Fault}
 

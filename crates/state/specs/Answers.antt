@@ -1,5 +1,5 @@
 -- When each call is refused, and with which fault: the first test that fails.
-use Rattle.std.specs.Prelude.{ℕ, ◌^◌, max, Bool, true, false, cond, not, ◌&&◌, ◌||◌, length, Ok, Err, Result, nat_le, nat_lt}
+use Rattle.std.specs.Prelude.{ℕ, ◌^◌, max, Bool, true, false, not, ◌&&◌, ◌||◌, length, Ok, Err, Result, nat_le, nat_lt}
 use Rattle.record.specs.declared.kind.Kind.{Kind}
 use Rattle.record.specs.declared.kind.Kind.TheVariants.{Notarization, Nullification, Finalization}
 use Rattle.record.specs.declared.fault.Fault.{Fault as Misread}
@@ -8,7 +8,7 @@ use Rattle.store.specs.Values.{Values, gaps_of}
 use Rattle.store.specs.Room.{row_due, rows_held, verdict_due, verdict_rows}
 use Rattle.store.specs.Steps.{before_planning}
 use Rattle.state.specs.declared.fault.Fault.{Fault}
-use Rattle.state.specs.declared.fault.Fault.TheVariants.{Record, TooFewPlaces, NotANotarization, ViewTooHigh, TableFull, TooManyGaps}
+use Rattle.state.specs.declared.fault.Fault.TheVariants.{Record, NotANotarization, ViewTooHigh, TableFull, TooManyGaps}
 
 abbrev pub Answer : Type 0
 Answer = Result (Unit {0}) Fault

@@ -4,7 +4,6 @@ use Rattle.effects.specs.declared.listed.Effects.{Effects}
 use Rattle.effects.specs.Lists.{Listed}
 use Rattle.record.specs.declared.kind.Kind.{Kind}
 use Rattle.store.specs.declared.held.Held.{Held}
-use Rattle.store.specs.Values.{Values}
 use Rattle.store.specs.Steps.{updated, updated_effects, certified, certified_effects, replayed, replayed_effects}
 use Rattle.state.specs.declared.state.State.{State}
 use Rattle.state.specs.Laws.{Promises, NotarizationSettlesNoNullification, EveryGapAsked}

@@ -1,5 +1,5 @@
 -- Which record is served for a view.
-use Rattle.std.specs.Prelude.{ℕ, Bool, cond, ◌&&◌, is_some, Some, None, Option, nat_le}
+use Rattle.std.specs.Prelude.{ℕ, cond, Some, None, Option, nat_le}
 use Rattle.cover.specs.Covers.{cover}
 use Rattle.store.specs.declared.held.Held.{Held}
 use Rattle.store.specs.Values.{Values, held_view, finalized}

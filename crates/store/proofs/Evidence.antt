@@ -1,5 +1,5 @@
 -- What the steps of evidence keep, whatever its kind.
-use Rattle.std.proofs.Common.{◌≡◌, ℕ, ◌^◌, ◌<◌, ◌≤◌, max, true, cond, ltb, [], ◌∷◌, length, arith}
+use Rattle.std.proofs.Common.{ℕ, ◌^◌, ◌≤◌, ltb, [], ◌∷◌, length, arith}
 use Rattle.std.proofs.lemmas.Bool.{cond_both}
 use Rattle.effects.specs.declared.effect.Effect.TheVariants.{Settled, Raised}
 use Rattle.effects.specs.declared.effect.Kind.TheVariants as ask
@@ -10,7 +10,7 @@ use Rattle.store.specs.declared.held.Held.{Held}
 use Rattle.store.specs.Values.{Values, with_current}
 use Rattle.store.specs.Ready.{Low}
 use Rattle.store.specs.Room.{Room}
-use Rattle.store.specs.Steps.{settles, if_due, nullification_counts, nullified, nullified_effects, notarization_counts, notarized, notarized_effects, finalized_at, pruned, raised, raised_effects, finalization_taken, finalization_effects, taken, taken_effects, seen, before_planning}
+use Rattle.store.specs.Steps.{settles, nullification_counts, nullified, nullified_effects, notarization_counts, notarized, notarized_effects, finalized_at, pruned, raised, raised_effects, finalization_taken, finalization_effects, taken_effects, before_planning}
 
 module _ {R : Type 0} (L : ℕ) where
   pub room_seen : (k : Kind) (v n : ℕ) (s : Values R) → Room L k v s → Room L k v (with_current n s)

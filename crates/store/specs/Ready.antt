@@ -1,10 +1,9 @@
 -- What a store needs, and what a call leaves.
-use Rattle.std.specs.Prelude.{◌≡◌, ℕ, ◌+◌, ◌^◌, ◌<◌, ◌≤◌, List, length as count}
+use Rattle.std.specs.Prelude.{◌≡◌, ℕ, ◌+◌, ◌^◌, ◌<◌, ◌≤◌, length as count}
 use Rattle.slot.specs.Slots.{places}
 use Rattle.table.specs.Tables.{capacity, Rises}
 use Rattle.terms.specs.Terms.{views}
 use Rattle.store.specs.declared.store.Store.{Store}
-use Rattle.effects.specs.declared.effect.Effect.{Effect}
 use Rattle.effects.specs.declared.listed.Effects.{Effects}
 use Rattle.effects.specs.Lists as list
 use Rattle.store.specs.Values.{Values, mark_view, held_view, values}

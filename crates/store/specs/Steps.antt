@@ -1,5 +1,5 @@
 -- What each call makes of the values, and its effects, in their order. Terms have L views.
-use Rattle.std.specs.Prelude.{ℕ, max, Bool, true, false, cond, not, ◌&&◌, ltb, List, [], ◌∷◌, ◌++◌, map, Some, None, filter, nat_lt}
+use Rattle.std.specs.Prelude.{ℕ, max, Bool, true, false, cond, not, ◌&&◌, ltb, List, [], ◌∷◌, ◌++◌, map, Some, filter, nat_lt}
 use Rattle.effects.specs.declared.effect.Effect.{Effect}
 use Rattle.effects.specs.declared.effect.Effect.TheVariants.{Fetch, Settled, Finalized, Raised}
 use Rattle.effects.specs.declared.effect.FetchReason.TheVariants.{CertificationFailed}
@@ -11,7 +11,7 @@ use Rattle.table.specs.declared.mark.Mark.{Mark}
 use Rattle.table.specs.Rows.{holds, with_row, without, kept}
 use Rattle.terms.specs.Terms.{end}
 use Rattle.store.specs.declared.held.Held.{Held}
-use Rattle.store.specs.Values.{Values, mark, mark_view, held_view, finalized, with_floor, with_current, with_cursor, with_replaying, with_finalization, with_nullifications, with_pending, with_certified, with_failed, is_nullified, is_pending, is_certified, has_failed, is_covered, unplanned}
+use Rattle.store.specs.Values.{Values, mark, mark_view, held_view, finalized, with_floor, with_current, with_cursor, with_replaying, with_finalization, with_nullifications, with_pending, with_certified, with_failed, is_certified, has_failed, is_covered, unplanned}
 
 -- the effect of evidence or a verdict on a notarization
 abbrev pub settles : ℕ → Effect

@@ -1,10 +1,10 @@
 -- What a member has recorded, as values.
-use Rattle.std.specs.Prelude.{ℕ, ◌+◌, Bool, cond, List, Some, None, Option}
+use Rattle.std.specs.Prelude.{ℕ, ◌+◌, Bool, List, Some, None, Option}
 use Rattle.cover.specs.Covers.{covered}
 use Rattle.planning.specs.Gaps.{plan_start, gaps}
 use Rattle.slot.specs.Slots.{held}
 use Rattle.table.specs.declared.mark.Mark.{Mark}
-use Rattle.table.specs.Rows.{holds, with_row}
+use Rattle.table.specs.Rows.{holds}
 use Rattle.table.specs.Tables.{entries}
 use Rattle.store.specs.declared.held.Held.{Held}
 use Rattle.store.specs.declared.store.Store.{Store}

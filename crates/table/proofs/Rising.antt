@@ -1,9 +1,9 @@
 -- Rows still ascend after each change.
-use Rattle.std.proofs.Common.{◌≡◌, ℕ, zero, suc, ◌<◌, Bool, true, not, eqb, ltb, List, [], ◌∷◌, ◌++◌, length, get_or, filter, sym, refl, subst, arith}
+use Rattle.std.proofs.Common.{◌≡◌, ℕ, zero, suc, ◌<◌, Bool, true, not, eqb, ltb, List, [], ◌∷◌, ◌++◌, filter, arith}
 use Rattle.std.specs.List.{AllByRecursion as All}
 use Rattle.std.proofs.ByRecursion.{all_from_every, All-get_or, All-append, All-weaker, all_kept_by, kept_by_passes}
 use Rattle.std.proofs.lemmas.Bool.{cond_both, ltb-true}
-use Rattle.table.specs.Rows.{views, Ascending, below, beyond, with_row, without, kept}
+use Rattle.table.specs.Rows.{Ascending, below, beyond, with_row, without, kept}
 use Rattle.table.proofs.Placing.{view_of}
 
 module _ {R : Type 0} (at : R → ℕ) where

@@ -1,5 +1,5 @@
 -- The laws of terms, for every length above 0.
-use Rattle.std.proofs.Common.{◌≡◌, ℕ, ◌+◌, ◌-◌, ◌*◌, ◌/◌, ◌%◌, ◌<◌, ◌≤◌, true, false, cond, ◌&&◌, eqb, leb, ◌⊎◌, Decides, sym, refl, ap, ◌∙◌, inl, inr, mod-lt, add-mul, one-mul, div-add-mod', zero-mul, arith}
+use Rattle.std.proofs.Common.{◌≡◌, ℕ, ◌+◌, ◌-◌, ◌*◌, ◌/◌, ◌<◌, ◌≤◌, eqb, leb, sym, refl, ap, ◌∙◌, inl, inr, mod-lt, add-mul, one-mul, div-add-mod', zero-mul, arith}
 use native.Mathlib.Nat.{div-eq_of_lt-le}
 use Rattle.std.proofs.lemmas.Bool.{eq-eqb, ne_eqb, eqb-true, le-leb, leb-true, and_parts, and_from, cases_eq, cases_lt, cond-false}
 use Rattle.terms.specs.Terms.{start, end, next, is_start, same_term, covering}

@@ -1,7 +1,7 @@
 -- Reading one part after the other, up to the first problem.
-use Rattle.std.proofs.Common.{◌≡◌, IsErrAnd, Ok, Err, Result, sym, refl, ap, ◌∙◌, inl, inr, ⊎_elim}
+use Rattle.std.proofs.Common.{◌≡◌, IsErrAnd, Ok, Err, Result, refl, ap, ◌∙◌}
 use Rattle.std.proofs.lemmas.Result.{err_from_is_err_and}
-use Rattle.words.specs.Problems.{Told, bind}
+use Rattle.words.specs.Problems.{bind}
 use Rattle.words.specs.declared.problem.Problem.{Problem}
 
 bind_err : {A B : Type 0} (f : A → Result B Problem) (p : Problem) → bind (Err p) f ≡ Err p

@@ -1,5 +1,5 @@
 -- Decimal numbers without sign or leading zeros.
-use Rattle.std.specs.Prelude.{ℕ, ◌+◌, ◌-◌, ◌*◌, ◌^◌, Bool, true, cond, not, ◌&&◌, ◌||◌, List, [], ◌∷◌, length, Ok, Err, Result, ◌==◌, nat_lt, slice_index}
+use Rattle.std.specs.Prelude.{ℕ, ◌+◌, ◌-◌, ◌*◌, ◌^◌, Bool, cond, not, ◌&&◌, List, [], ◌∷◌, length, Ok, Err, Result, ◌==◌, nat_lt, slice_index}
 use Rattle.words.specs.Classes.{decimal_digit, every}
 use Rattle.words.specs.declared.problem.Problem.{Problem}
 use Rattle.words.specs.declared.problem.Problem.TheVariants.{MissingWord, NotANumber, OutOfRange}

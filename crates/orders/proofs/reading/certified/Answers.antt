@@ -2,8 +2,7 @@ use Rattle.std.proofs.Common.{◌≡◌, Ok, Err, sym, ap, ◌∙◌, inl, inr, 
 use Rattle.orders.specs.Names.{verdict_of}
 use Rattle.orders.specs.Orders.{certified_of}
 use Rattle.record_text.specs.Parts.{record_of}
-use Rattle.words.specs.Lines.{word_at, after_words, ended}
-use Rattle.words.specs.Numerals.{number_of, short_of}
+use Rattle.words.specs.Lines.{word_at, after_words}
 use Rattle.words.proofs.Binds.{go_on, stopped, exit_is}
 use Rattle.orders.proofs.reading.certified.Goals as goal
 

@@ -1,7 +1,6 @@
-use Rattle.std.proofs.Common.{◌≡◌, Ok, Err, sym, ap, ◌∙◌, inl, inr, ⊎_elim}
+use Rattle.std.proofs.Common.{◌≡◌, Ok, Err, inr}
 use Rattle.orders.specs.Orders.{plain_of}
-use Rattle.words.specs.Lines.{word_at, after_words, ended}
-use Rattle.words.specs.Numerals.{number_of, short_of}
+use Rattle.words.specs.Lines.{ended}
 use Rattle.words.proofs.Binds.{go_on, stopped, exit_is}
 use Rattle.orders.proofs.reading.plain.Goals as goal
 

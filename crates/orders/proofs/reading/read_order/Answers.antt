@@ -1,12 +1,9 @@
-use Rattle.std.proofs.Common.{◌≡◌, Ok, Err, Result, sym, ap, ◌∙◌, subst, inl, inr, ⊎_elim}
+use Rattle.std.proofs.Common.{◌≡◌, Ok, Err, sym, ap, ◌∙◌, subst, inr}
 use Rattle.orders.specs.Names.{name_of}
-use Rattle.orders.specs.Orders.{Meant, meant, named_of, order_of}
-use Rattle.orders.specs.declared.naming.Name.{Name}
+use Rattle.orders.specs.Orders.{meant, named_of, order_of}
 use Rattle.orders.specs.declared.naming.Name.TheVariants.{Updated, Certified, Replayed, Settled, Produce, State}
-use Rattle.orders.specs.declared.order.Order.{Order}
 use Rattle.words.specs.Lines.{word_at, after_words}
 use Rattle.words.specs.Problems.{Told}
-use Rattle.words.specs.declared.problem.Problem.{Problem}
 use Rattle.words.proofs.Binds.{go_on, stopped, exit_is}
 use Rattle.orders.proofs.reading.read_order.Goals as goal
 

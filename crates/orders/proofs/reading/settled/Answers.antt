@@ -1,8 +1,8 @@
-use Rattle.std.proofs.Common.{◌≡◌, Ok, Err, sym, ap, ◌∙◌, inl, inr, ⊎_elim}
+use Rattle.std.proofs.Common.{◌≡◌, Ok, Err, ◌∙◌, inr}
 use Rattle.orders.specs.Names.{kind_of}
 use Rattle.orders.specs.Orders.{settled_of}
 use Rattle.words.specs.Lines.{word_at, after_words, ended}
-use Rattle.words.specs.Numerals.{number_of, short_of}
+use Rattle.words.specs.Numerals.{number_of}
 use Rattle.words.proofs.Binds.{go_on, stopped, exit_is}
 use Rattle.orders.proofs.reading.settled.Goals as goal
 

@@ -1,8 +1,5 @@
-use Rattle.std.proofs.Common.{◌≡◌, Ok, Err, sym, ap, ◌∙◌, inl, inr, ⊎_elim}
+use Rattle.std.proofs.Common.{inl, inr, ⊎_elim}
 use Rattle.orders.specs.Orders.{updated_of}
-use Rattle.record_text.specs.Parts.{record_of}
-use Rattle.words.specs.Lines.{word_at, after_words, ended}
-use Rattle.words.specs.Numerals.{number_of, short_of}
 use Rattle.words.proofs.Binds.{go_on, stopped, exit_is}
 use Rattle.orders.proofs.reading.updated.Goals as goal
 

@@ -1,4 +1,4 @@
-use Rattle.std.proofs.Common.{◌≡◌, Ok, Err, sym, ap, ◌∙◌, inl, inr, ⊎_elim}
+use Rattle.std.proofs.Common.{◌≡◌, Ok, Err, sym, ◌∙◌}
 use Rattle.orders.specs.Setups.{setup_of}
 use Rattle.words.specs.Lines.{word_at, after_words, ended}
 use Rattle.words.specs.Numerals.{number_of, short_of}

@@ -1,4 +1,4 @@
-use Rattle.std.proofs.Common.{◌≡◌, Ok, Err, codes, sym, ap, ◌∙◌}
+use Rattle.std.proofs.Common.{◌≡◌, Ok, Err, codes, sym, ◌∙◌}
 use Rattle.record_text.specs.Options.{option_of, past, options_of}
 use Rattle.record_text.proofs.options.read_options.Goals as goal
 use Rattle.words.specs.Lines.{word_at, ended}

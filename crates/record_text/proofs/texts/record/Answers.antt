@@ -1,10 +1,10 @@
-use Rattle.std.proofs.Common.{◌≡◌, true, false, Ok, Err, vec_items, codes, sym, refl, ap, ◌∙◌, subst, inl, inr, ⊎_elim}
+use Rattle.std.proofs.Common.{◌≡◌, true, false, Ok, vec_items, codes, sym, refl, ap, ◌∙◌, subst, inl, inr}
 use Rattle.std.specs.Str.{bytes_eq}
 use Rattle.std.proofs.lemmas.Result.{err_from_is_err_and}
 use Rattle.std.proofs.lemmas.Bool.{cond-true, cond-false}
 use Rattle.record_text.specs.Parts.{hex_record, parts_of, record_of}
 use Rattle.record_text.proofs.texts.record.Goals as goal
-use Rattle.words.specs.Lines.{word_at, after_words}
+use Rattle.words.specs.Lines.{word_at}
 use Rattle.words.specs.Problems.{Told}
 use Rattle.words.proofs.Binds.{exit_is}
 

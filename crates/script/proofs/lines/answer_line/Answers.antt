@@ -1,4 +1,4 @@
-use Rattle.std.proofs.Common.{◌≡◌, take, Ok, Err, sym, ap, ◌∙◌, inl, inr, ⊎_elim}
+use Rattle.std.proofs.Common.{◌≡◌, take, Ok, Err, ap, ◌∙◌, inl, inr, ⊎_elim}
 use Rattle.script.specs.Commands.{command_of}
 use Rattle.script.specs.Lines.{term_run, covers_run, read_run, text_run}
 use Rattle.script.specs.declared.command.Command.TheVariants.{Nothing, Term, Covers, Read}

@@ -1,4 +1,4 @@
-use Rattle.std.proofs.Common.{◌≡◌, Ok, Err, sym, ap, ◌∙◌, inl, inr, ⊎_elim}
+use Rattle.std.proofs.Common.{Ok, sym, ap, ◌∙◌, inl, inr, ⊎_elim}
 use Rattle.script.specs.Answers.{read_answer}
 use Rattle.script.specs.Lines.{read_run}
 use Rattle.script.proofs.lines.run_read.Goals as goal

@@ -1,6 +1,5 @@
-use Rattle.std.proofs.Common.{◌≡◌, length, get_or, take, sym, ap, ◌∙◌, arith}
+use Rattle.std.proofs.Common.{sym, ap, ◌∙◌, arith}
 use Rattle.std.proofs.lemmas.List.{length-take-le}
-use Rattle.table.specs.Rows.{views}
 use Rattle.table.proofs.Placing.{view_among}
 use Rattle.table.proofs.rows.find.Goals as goal
 

@@ -1,4 +1,4 @@
-use Rattle.std.proofs.Common.{◌≡◌, length, take, sym, refl, ap, ◌∙◌, subst, arith}
+use Rattle.std.proofs.Common.{length, take, sym, refl, ◌∙◌, subst, arith}
 use Rattle.std.proofs.lemmas.List.{length-set, length-take-le}
 use Rattle.table.specs.Rows.{Here, Gap}
 use Rattle.table.proofs.Placing.{put_absent, room_here, room_free, room_none, written_over}

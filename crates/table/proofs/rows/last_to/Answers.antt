@@ -1,4 +1,4 @@
-use Rattle.std.proofs.Common.{◌≡◌, ◌-◌, take, sym, ◌∙◌, arith}
+use Rattle.std.proofs.Common.{◌-◌, take, sym, ◌∙◌, arith}
 use Rattle.std.proofs.lemmas.List.{get_or-take}
 use Rattle.table.proofs.Placing.{highest_none, highest_some}
 use Rattle.table.proofs.rows.last_to.Goals as goal

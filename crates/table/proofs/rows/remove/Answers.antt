@@ -1,4 +1,4 @@
-use Rattle.std.proofs.Common.{◌≡◌, take, sym, ◌∙◌, arith}
+use Rattle.std.proofs.Common.{take, sym, ◌∙◌, arith}
 use Rattle.table.proofs.Placing.{cut_present, without_absent}
 use Rattle.table.proofs.rows.remove.Goals as goal
 

@@ -1,4 +1,4 @@
-use Rattle.std.proofs.Common.{◌≡◌, take, sym, ◌∙◌, arith}
+use Rattle.std.proofs.Common.{take, sym, ◌∙◌, arith}
 use Rattle.std.proofs.lemmas.Slice.{between_is}
 use Rattle.table.proofs.Placing.{kept_is}
 use Rattle.table.proofs.rows.retire.Goals as goal

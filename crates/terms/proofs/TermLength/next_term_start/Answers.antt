@@ -1,6 +1,5 @@
-use Rattle.std.proofs.Common.{◌+◌, ◌<◌, ap, ◌∙◌, arith}
+use Rattle.std.proofs.Common.{◌+◌, ap, arith}
 use Rattle.std.proofs.lemmas.Result.{err_from_is_err_and}
-use Rattle.std.proofs.lemmas.Bool.{cases_eq}
 use Rattle.terms.specs.Terms.{views, next}
 use Rattle.terms.proofs.Laws.{least_next, end_below}
 use Rattle.terms.proofs.TermLength.next_term_start.Goals as goal

@@ -1,4 +1,4 @@
-use Rattle.std.proofs.Common.{◌≡◌, ◌+◌, ◌*◌, ◌≤◌, [], ◌∷◌, ◌++◌, length, get_or, drop, vec_items, sym, ap, ◌∙◌, append_assoc, rules}
+use Rattle.std.proofs.Common.{◌+◌, ◌*◌, ◌≤◌, [], ◌∷◌, length, get_or, drop, vec_items, ap, append_assoc, rules}
 use Rattle.std.proofs.lemmas.List.{take_rest}
 use Rattle.words.specs.Hex.{nibble_of, decoded}
 use Rattle.words.proofs.Pairs.{decoded_more}

@@ -1,4 +1,4 @@
-use Rattle.std.proofs.Common.{◌≡◌, ℕ, ◌+◌, true, false, List, length, take, drop, Some, None, Option, subst, Bor, MatchOption}
+use Rattle.std.proofs.Common.{◌≡◌, ℕ, ◌+◌, true, false, List, length, drop, Some, None, Option, subst, Bor, MatchOption}
 use Rattle.words.specs.Lines.{begins}
 use Rattle.words.proofs.split.strip.Goals as goal
 

@@ -1,4 +1,4 @@
-use Rattle.std.proofs.Common.{◌≡◌, [], ◌∷◌, refl, arith}
+use Rattle.std.proofs.Common.{[], ◌∷◌, refl, arith}
 use Rattle.effects.specs.Lists.{Added}
 use Rattle.effects.proofs.Adding.{nothing_added, added_both, full_filled, added_filled, all_filled, nothing_filled, filled_both, one_stands, one_rest, one_room}
 use Rattle.effects.proofs.listed.Effects.push.Goals as goal

@@ -1,4 +1,4 @@
-use Rattle.std.proofs.Common.{◌≡◌, sym, refl, ap, subst, arith}
+use Rattle.std.proofs.Common.{sym, refl, ap, subst}
 use Rattle.terms.specs.Terms.{views}
 use Rattle.store.specs.Steps.{replayed_effects}
 use Rattle.state.specs.Laws.{Promises, EveryGapAsked}

@@ -1,4 +1,4 @@
-use Rattle.std.proofs.Common.{◌≡◌, sym, refl, ap, subst, arith}
+use Rattle.std.proofs.Common.{sym, refl, ap, subst, arith}
 use Rattle.terms.specs.Terms.{views}
 use Rattle.store.specs.Steps.{certified_effects}
 use Rattle.state.specs.Laws.{Promises}

@@ -1,8 +1,7 @@
-use Rattle.std.proofs.Common.{◌≡◌, true, ◌&&◌, ltb, leb, length, sym, ap, ◌∙◌, subst, arith}
+use Rattle.std.proofs.Common.{◌≡◌, true, ◌&&◌, ltb, leb, length, sym, ◌∙◌, subst, arith}
 use Rattle.std.proofs.lemmas.Bool.{and_parts, ltb-true, leb-true}
 use Rattle.store.specs.Ready.{length_of, Roomy}
 use Rattle.state.specs.Lawful.{Lawful}
-use Rattle.state.specs.States.{enough}
 use Rattle.state.proofs.Facts.{facts, fresh_lawful}
 use Rattle.state.proofs.state.State.new.Goals as goal
 

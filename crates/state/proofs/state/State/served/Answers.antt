@@ -1,10 +1,5 @@
-use Rattle.std.proofs.Common.{◌≡◌, Some, None, Option, sym, ap, ◌∙◌}
-use Rattle.cover.specs.Covers.{cover}
-use Rattle.store.specs.declared.held.Held.{Held}
-use Rattle.store.specs.Values.{held_view}
-use Rattle.table.specs.Rows.{lookup}
-use Rattle.state.specs.Serving.{or_else, finalization_for, floor_for, served}
-use Rattle.state.specs.States.{held, term}
+use Rattle.std.proofs.Common.{◌≡◌, Some, None, Option, ap, ◌∙◌}
+use Rattle.state.specs.Serving.{or_else, served}
 use Rattle.state.proofs.state.State.served.Goals as goal
 
 -- the first that there is

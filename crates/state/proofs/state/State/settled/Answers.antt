@@ -1,4 +1,4 @@
-use Rattle.std.proofs.Common.{◌≡◌, true, false, ◌||◌, leb, sym, ap, ◌∙◌, arith}
+use Rattle.std.proofs.Common.{◌||◌, sym, ap, ◌∙◌, arith}
 use Rattle.std.proofs.lemmas.Bool.{le-leb, lt-leb}
 use Rattle.store.specs.Values.{finalized}
 use Rattle.state.specs.Settled.{answered, settled}

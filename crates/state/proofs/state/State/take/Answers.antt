@@ -1,11 +1,9 @@
-use Rattle.std.proofs.Common.{◌≡◌, sym, refl, ap, subst, arith}
+use Rattle.std.proofs.Common.{sym, refl, ap, subst, arith}
 use Rattle.terms.specs.Terms.{views}
-use Rattle.store.specs.Ready.{Turned}
-use Rattle.store.specs.Steps.{updated, updated_effects}
-use Rattle.state.specs.declared.state.State.{State}
+use Rattle.store.specs.Steps.{updated_effects}
 use Rattle.state.specs.Laws.{Promises, NotarizationSettlesNoNullification}
 use Rattle.state.specs.States.{held, term}
-use Rattle.state.proofs.Evidence.{Tested, evidence_tested, evidence_lawful, evidence_room, evidence_promises, evidence_settles}
+use Rattle.state.proofs.Evidence.{evidence_tested, evidence_lawful, evidence_room, evidence_promises, evidence_settles}
 use Rattle.state.proofs.Facts.{rising_of, rises_of, roomy_of, lawful_of, low_of, finalized_low, facts_after, cleared_room}
 use Rattle.state.proofs.state.State.take.Goals as goal
 

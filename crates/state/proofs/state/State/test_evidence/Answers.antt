@@ -1,8 +1,6 @@
-use Rattle.std.proofs.Common.{◌≡◌, ◌^◌, Bool, true, false, ◌&&◌, ltb, leb, Ok, Err, sym, refl, ap, ◌∙◌, arith}
+use Rattle.std.proofs.Common.{◌^◌, Ok, sym, refl, ◌∙◌}
 use Rattle.std.proofs.lemmas.Bool.{lt-ltb, le-ltb}
-use Rattle.state.specs.Answers.{Answer, refused_if, gaps_over, evidence_answer}
-use Rattle.state.specs.declared.fault.Fault.{Fault}
-use Rattle.state.specs.States.{held, term}
+use Rattle.state.specs.Answers.{evidence_answer}
 use Rattle.state.proofs.Testing.{refused, passed}
 use Rattle.state.proofs.state.State.test_evidence.Goals as goal
 

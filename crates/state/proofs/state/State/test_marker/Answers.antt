@@ -1,4 +1,4 @@
-use Rattle.std.proofs.Common.{◌≡◌, Ok, sym, refl, ◌∙◌}
+use Rattle.std.proofs.Common.{Ok, sym, refl, ◌∙◌}
 use Rattle.state.specs.Answers.{marker_answer}
 use Rattle.state.proofs.Testing.{refused, passed}
 use Rattle.state.proofs.state.State.test_marker.Goals as goal

@@ -1,9 +1,7 @@
-use Rattle.std.proofs.Common.{◌≡◌, true, false, sym, ap, ◌∙◌}
+use Rattle.std.proofs.Common.{sym, ap, ◌∙◌}
 use Rattle.std.proofs.lemmas.Bool.{cond-true, cond-false}
 use Rattle.table.specs.Tables.{entries, capacity}
 use Rattle.store.specs.Values.{values, mark, mark_view, with_pending, is_certified}
-use Rattle.store.specs.Ready.{Rising}
-use Rattle.store.specs.Steps.{awaiting}
 use Rattle.store.proofs.Turns.{goes_in, turned_same, turned_pending}
 use Rattle.store.proofs.store.Store.await_verdict.Goals as goal
 

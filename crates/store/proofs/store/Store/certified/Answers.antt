@@ -1,8 +1,8 @@
-use Rattle.std.proofs.Common.{◌≡◌, ◌+◌, ◌≤◌, true, false, [], ◌∷◌, ◌++◌, length, sym, refl, ap, ◌∙◌, subst, arith}
+use Rattle.std.proofs.Common.{[], ◌∷◌, ◌++◌, length, refl, arith}
 use Rattle.effects.specs.Lists.{Added}
 use Rattle.effects.proofs.Adding.{added_both}
-use Rattle.store.specs.Values.{values, finalized}
-use Rattle.store.specs.Ready.{length_of, Rising, Roomy, Low, Turned, HasRoom}
+use Rattle.store.specs.Values.{values}
+use Rattle.store.specs.Ready.{length_of, Rising}
 use Rattle.store.specs.Steps.{settles, raised_effects, planned, planned_effects, passing, failing, failing_effects, judged}
 use Rattle.store.proofs.Turns.{room_after, roomy_kept, told_next, turned_next, turned_pending, added_next}
 use Rattle.store.proofs.store.Store.certified.Goals as goal

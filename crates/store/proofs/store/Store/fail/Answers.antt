@@ -1,4 +1,4 @@
-use Rattle.std.proofs.Common.{◌≡◌, ◌≤◌, true, false, cond, [], ◌∷◌, length, sym, refl, ap, ◌∙◌, subst, arith}
+use Rattle.std.proofs.Common.{◌≤◌, false, [], ◌∷◌, length, sym, refl, ap, ◌∙◌, subst, arith}
 use Rattle.std.proofs.lemmas.Bool.{and_from, not_from_false, lt-ltb, cond-true, cond-false, cond_both}
 use Rattle.effects.specs.Lists.{Added}
 use Rattle.effects.proofs.Adding.{nothing_added}
@@ -6,7 +6,7 @@ use Rattle.store.specs.Values.{values, finalized}
 use Rattle.store.specs.Ready.{length_of, Rising, Roomy, Turned}
 use Rattle.store.specs.Room.{VerdictRoom}
 use Rattle.store.specs.Steps.{failed_fetch, failed_at, failing, failing_effects, is_bare, bare_effects}
-use Rattle.store.proofs.Turns.{told_next, turned_next, turned_certified, added_next}
+use Rattle.store.proofs.Turns.{turned_next, turned_certified, added_next}
 use Rattle.store.proofs.store.Store.fail.Goals as goal
 
 pub returns-then-self : goal.returns-then-self

@@ -1,6 +1,5 @@
-use Rattle.std.proofs.Common.{◌≡◌, map, length, take, filter}
+use Rattle.std.proofs.Common.{map, length, take, filter}
 use Rattle.effects.specs.Lists.{Added}
-use Rattle.table.specs.Tables.{entries}
 use Rattle.store.specs.Values.{values, mark_view}
 use Rattle.store.specs.Ready.{length_of, Rising, HasRoom}
 use Rattle.store.specs.Steps.{is_bare, failed_bare, failed_fetch}

@@ -1,12 +1,11 @@
-use Rattle.std.proofs.Common.{◌≡◌, ℕ, ◌+◌, ◌^◌, ◌<◌, ◌≤◌, true, false, cond, ltb, [], ◌∷◌, Some, sym, refl, ap, ◌∙◌, subst, arith}
+use Rattle.std.proofs.Common.{ℕ, ◌^◌, ◌≤◌, ltb, [], ◌∷◌, Some, sym, ap, ◌∙◌, subst, arith}
 use Rattle.std.proofs.lemmas.Bool.{cond_both}
 use Rattle.effects.specs.Lists.{Added}
 use Rattle.effects.specs.declared.effect.Effect.TheVariants.{Finalized}
 use Rattle.effects.proofs.Adding.{added_both}
 use Rattle.store.specs.declared.held.Held.{Held}
-use Rattle.store.specs.declared.store.Store.{Store}
 use Rattle.store.specs.Values.{Values, values, view_of, finalized}
-use Rattle.store.specs.Ready.{length_of, Rising, Roomy, Turned, HasRoom}
+use Rattle.store.specs.Ready.{length_of, Rising, Roomy, Turned}
 use Rattle.store.specs.Steps.{finalized_at, pruned, raised, raised_effects, finalization_taken, finalization_effects}
 use Rattle.store.proofs.Turns.{turned_next, added_next, room_after}
 use Rattle.store.proofs.store.Store.finalize.Goals as goal

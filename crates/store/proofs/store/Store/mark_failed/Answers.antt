@@ -1,4 +1,4 @@
-use Rattle.std.proofs.Common.{◌≡◌, ◌<◌, true, false, ltb, sym, ap, ◌∙◌, arith}
+use Rattle.std.proofs.Common.{◌<◌, ltb, ap, arith}
 use Rattle.std.proofs.lemmas.Bool.{cond-true, cond-false, lt-ltb, le-ltb}
 use Rattle.table.specs.Tables.{entries, capacity}
 use Rattle.store.specs.Values.{values, mark, mark_view, finalized, with_failed}

@@ -1,6 +1,5 @@
-use Rattle.std.proofs.Common.{◌≡◌, true, refl, ap}
+use Rattle.std.proofs.Common.{refl}
 use Rattle.store.specs.Fresh.{fresh}
-use Rattle.store.specs.Values.{Values}
 use Rattle.store.proofs.store.Store.new.Goals as goal
 
 pub returns : goal.returns

@@ -1,9 +1,8 @@
-use Rattle.std.proofs.Common.{◌≡◌, ◌+◌, ◌^◌, ◌≤◌, max, ◌++◌, length, sym, ap, ◌∙◌, subst, arith}
+use Rattle.std.proofs.Common.{◌^◌, ◌≤◌, length, sym, ap, subst, arith}
 use Rattle.std.proofs.lemmas.List.{length-append}
 use Rattle.effects.specs.Lists.{Added}
 use Rattle.effects.specs.Lists as list
 use Rattle.effects.proofs.Adding.{added_both}
-use Rattle.store.specs.declared.store.Store.{Store}
 use Rattle.store.specs.Values.{values, finalized, with_current}
 use Rattle.store.specs.Ready.{length_of, Rising, Roomy, Low, Turned, HasRoom}
 use Rattle.store.specs.Room.{Room}
