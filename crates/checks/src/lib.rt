@@ -9,4 +9,4 @@ mod replies;
 #[cfg(test)]
 mod tables;
 #[cfg(test)]
-mod views;
+mod term_numbers;
