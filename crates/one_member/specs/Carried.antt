@@ -6,8 +6,8 @@ use Rattle.orders.specs.Orders.{Meant, update, judge, end, ask, serve, tell}
 use Rattle.record.specs.Certificates.{kind_in, proposal_in}
 use Rattle.record.specs.Format.{reading}
 use Rattle.record.specs.declared.certificate.Certificate.{Certificate}
-use Rattle.session.specs.declared.carrying.Answered.{Answered}
-use Rattle.session.specs.declared.carrying.Answered.TheVariants.{Done, Refused, Yes, No, Nothing, Served, Told}
+use Rattle.one_member.specs.declared.carrying.Answered.{Answered}
+use Rattle.one_member.specs.declared.carrying.Answered.TheVariants.{Done, Refused, Yes, No, Nothing, Served, Told}
 use Rattle.state.specs.Answers.{Answer, refused_if, too_few, if_read, evidence_answer, verdict_answer, marker_answer}
 use Rattle.state.specs.Calls.{kept_as, Unchanged, Evidence, Verdict, Marker}
 use Rattle.state.specs.Faults.{refusal_of}

@@ -1,7 +1,7 @@
 use Rattle.std.proofs.Common.{◌≡◌, ℕ, ◌+◌, ◌*◌, ◌^◌, ◌<◌, ◌≤◌, arith}
 use Rattle.std.proofs.Math.Pow.{pow_mono}
 use Rattle.std.proofs.lemmas.Grind.{pow_more}
-use Rattle.session.proofs.admitting.ones.Goals as goal
+use Rattle.one_member.proofs.admitting.ones.Goals as goal
 
 -- one more bit still fits
 next_fits : (m i n : ℕ) → m + 1 ≡ 2 ^ i → i < n → n ≤ 64 → m * 2 + 1 < 2 ^ 64

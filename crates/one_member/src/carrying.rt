@@ -1,6 +1,6 @@
 ghost use Rattle.std.specs.Prelude.{◌≡◌};
 ghost use Rattle.orders.specs.Orders.{meant};
-ghost use Rattle.session.specs.Carried.{done_of, yes_no, found_of, Carried};
+ghost use Rattle.one_member.specs.Carried.{done_of, yes_no, found_of, Carried};
 
 use effects::Effects;
 use orders::Order;

@@ -2,7 +2,7 @@ ghost use Rattle.std.specs.Prelude.{◌≡◌, ◌+◌, ◌-◌, ◌^◌, ◌<�
 ghost use Rattle.terms.specs.Faults.{refusal_of};
 ghost use Rattle.terms.specs.Terms.{views as views_of};
 ghost use Rattle.terms.specs.declared.fault.Fault.TheVariants.{ZeroLength};
-ghost use Rattle.session.specs.Making.{allowed, no_quorum};
+ghost use Rattle.one_member.specs.Making.{allowed, no_quorum};
 
 use orders::Setup;
 use refusals::{Layer, Refusal};
