@@ -1,4 +1,4 @@
-ghost use Rattle.std.specs.Prelude.{◌≡◌, bytes_eq};
+ghost use Rattle.std.specs.Prelude.{◌≡◌, Decides, bytes_eq};
 ghost use Rattle.std.specs.Cmp.Rules.{comparing};
 ghost use Rattle.std.proofs.Common.{rules};
 ghost use Rattle.record.specs.Certificates.{header_of, proposal_in};
@@ -21,8 +21,12 @@ impl PartialEq for Digest {
 
     ghost laws = { Prim.search (comparing, rules) };
 
-    fn eq(&self, other: &Digest) -> bool {
-        self.0 == other.0
+    fn eq(&self, other: &Digest) -> bool
+        ensures value { result ≡ bytes_eq self.now.0 other.now.0 }
+        ensures decides { Decides result (self.now ≡ other.now) }
+    {
+        let Digest(bytes) = other;
+        self.0 == *bytes
     }
 }
 
@@ -35,8 +39,12 @@ impl PartialEq for Proof {
 
     ghost laws = { Prim.search (comparing, rules) };
 
-    fn eq(&self, other: &Proof) -> bool {
-        self.0 == other.0
+    fn eq(&self, other: &Proof) -> bool
+        ensures value { result ≡ bytes_eq self.now.0 other.now.0 }
+        ensures decides { Decides result (self.now ≡ other.now) }
+    {
+        let Proof(bytes) = other;
+        self.0 == *bytes
     }
 }
 
