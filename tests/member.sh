@@ -3,7 +3,7 @@
 set -uo pipefail
 # The last command of a pipe runs in this shell, so that it can count.
 shopt -s lastpipe
-program=target/bin/member
+program=crates/member/out/member
 bad=0
 
 # expect NAME STATUS OUTPUT: what the program does with standard input.
