@@ -1,8 +1,10 @@
 -- The place of a view among rows that ascend.
-use Rattle.std.proofs.Common.{◌≡◌, ℕ, zero, suc, ◌+◌, ◌-◌, ◌<◌, ◌≤◌, Bool, true, false, not, eqb, ltb, leb, List, [], ◌∷◌, ◌++◌, length, get_or, take, drop, set, is_some, Some, None, filter, sym, refl, ap, ◌∙◌, inl, inr, arith}
-use Rattle.std.specs.List.{insert, remove}
-use Rattle.std.proofs.lemmas.List.{get_or-map, get_or-take, get_or_default, length-take-le, set_split}
-use Rattle.std.proofs.lemmas.Bool.{cases_Bool, cases_eq, cases_lt, both_ways, cond-true, cond-false, eq-eqb, ne_eqb, lt-ltb, le-ltb, ltb-true, le-leb, lt-leb, leb-true, leb-false, ltb-false, not_from_true, not_from_false, or_left, or_right, or_from}
+use Rattle.std.proofs.Common.{◌≡◌, ℕ, zero, suc, ◌+◌, ◌-◌, ◌<◌, ◌≤◌, Bool, true, false, not, eqb, ltb, leb, List, [], ◌∷◌, ◌++◌, length, get_or, slice_get, take, drop, set, is_some, Some, None, filter, sym, refl, ap, ◌∙◌, subst, inl, inr, arith}
+use Rattle.std.specs.List.{copy_within, insert, remove}
+use Rattle.std.specs.List.Sorted.{IsPartitionPoint, IsPartitionedBy}
+use Rattle.std.proofs.lemmas.List.{get_or-map, get_or_default, length-take-le, set_split, take-take}
+use Rattle.std.proofs.lemmas.Bool.{cases_Bool, cases_eq, cases_lt, both_ways, cond-true, cond-false, eq-eqb, ne_eqb, lt-ltb, le-ltb, ltb-true, le-leb, lt-leb, leb-true, leb-false, ltb-false, not-true, not-false, not_from_true, not_from_false, or_left, or_right, or_from}
+use Rattle.table.proofs.Shifts.{take_set_any, moved_above, cut_is, cut_off_is, put_is}
 use Rattle.table.specs.Rows.{last_of, views, Ascending, lookup, holds, highest, without, below, beyond, with_row, has_room, kept, Parts, Here, Gap}
 
 -- what a filter keeps of a list that it parts at a place
@@ -36,21 +38,9 @@ module _ {R : Type 0} (at : R → ℕ) where
   pub view_of : (rs : List R) (k : ℕ) (d : R) → k < length rs → get_or (views at rs) k 0 ≡ at (get_or rs k d)
   view_of rs k d h = get_or-map at rs k d 0 h
 
-  -- the same among the first rows
-  pub view_among : (rows : List R) (len k : ℕ) (d : R) → len ≤ length rows → k < len → get_or (views at (take len rows)) k 0 ≡ at (get_or rows k d)
-  view_among rows len k d f h = view_of (take len rows) k d (rw (length-take-le len rows f) h) ∙ ap at (get_or-take len rows k d h)
-
   -- a later row lies no lower
   pub rises : (rs : List R) → Ascending at rs → (i j : ℕ) → i ≤ j → j < length rs → get_or (views at rs) i 0 ≤ get_or (views at rs) j 0
   rises rs asc i j le h = elim (cases_eq i j) [ inl e ↦ rw e (omega arith) | inr ne ↦ omega (arith, asc i j (omega arith) h) ]
-
-  module _ (p : ℕ → Bool) (law : (u v : ℕ) → u ≤ v → p u ≡ true → p v ≡ true) (rs : List R) (asc : Ascending at rs) where
-    -- where one is kept, so are the later ones; where one is not, neither are the earlier ones
-    pub later_kept : (mid : ℕ) → p (get_or (views at rs) mid 0) ≡ true → (k : ℕ) → mid ≤ k → k < length rs → p (get_or (views at rs) k 0) ≡ true
-    later_kept mid t k h l = law _ _ (rises rs asc mid k h l) t
-
-    pub earlier_not : (mid : ℕ) → mid < length rs → p (get_or (views at rs) mid 0) ≡ false → (k : ℕ) → k < mid + 1 → p (get_or (views at rs) k 0) ≡ false
-    earlier_not mid l f k h = elim (cases_Bool (p (get_or (views at rs) k 0))) [ inl t ↦ absurd (both_ways _ f (later_kept k t mid (omega arith) l)) | inr e ↦ e ]
 
   -- the place of a view: the rows from it on are at or above the view
   module _ (rs : List R) (v i : ℕ) (q : Parts at (leb v) rs i) where
@@ -131,13 +121,14 @@ module _ {R : Type 0} (at : R → ℕ) where
       (λ k d h l. sym (ap p (view_of rs k d l)) ∙ q.before k h)
       (λ k d h l. sym (ap p (view_of rs k d l)) ∙ q.after k h l)
 
-  -- what lies at or below a view stands before the first row past it
-  last_taken : (xs : List R) (n : ℕ) (x : R) → n < length xs → x ≡ get_or xs n x → last_of (take (suc n) xs) ≡ Some x
-  last_taken [] n x h e = absurd (omega arith)
-  last_taken (y ∷ ys) zero x h e = ap Some (sym e)
-  last_taken (y ∷ []) (suc n) x h e = absurd (omega arith)
-  last_taken (y ∷ z ∷ zs) (suc n) x h e = last_taken (z ∷ zs) n x (omega arith) e
+  last_read : (xs : List R) → last_of xs ≡ slice_get xs (length xs - 1)
+  last_read [] = refl
+  last_read (x ∷ []) = refl
+  last_read (x ∷ y ∷ ys) =
+      let n : suc (suc (length ys)) - 1 ≡ suc (suc (length ys) - 1) = omega arith in
+      last_read (y ∷ ys) ∙ sym (ap (slice_get (x ∷ y ∷ ys)) n)
 
+  -- what lies at or below a view stands before the first row past it
   module _ (rs : List R) (v i : ℕ) (q : Parts at (ltb v) rs i) where
     front_is : filter (λ r. leb (at r) v) rs ≡ take i rs
     front_is =
@@ -145,15 +136,9 @@ module _ {R : Type 0} (at : R → ℕ) where
         (λ k d h l. let e = view_of rs k d l in le-leb (at (get_or rs k d)) v (omega (arith, ltb-false v _ (q.before k h))))
         (λ k d h l. let e = view_of rs k d l in lt-leb (at (get_or rs k d)) v (omega (arith, ltb-true v _ (q.after k h l))))
 
-    pub highest_none : i ≡ 0 → None ≡ highest at v rs
+    pub highest_is : highest at v rs ≡ slice_get (take i rs) (length (take i rs) - 1)
     unfolding highest
-    highest_none z = sym (ap last_of (front_is ∙ ap (λ n. take n rs) z))
-
-    pub highest_some : (x : R) → 0 < i → x ≡ get_or rs (i - 1) x → Some x ≡ highest at v rs
-    unfolding highest
-    highest_some x h e =
-        let n : i ≡ suc (i - 1) = omega arith in
-        sym (ap last_of (front_is ∙ ap (λ k. take k rs) n) ∙ last_taken rs (i - 1) x (omega (arith, q.within)) e)
+    highest_is = ap last_of front_is ∙ last_read (take i rs)
 
   -- whether there is room for a row
   module _ (rs : List R) (cap : ℕ) (row : R) (i : ℕ) (asc : Ascending at rs) where
@@ -168,12 +153,50 @@ module _ {R : Type 0} (at : R → ℕ) where
     pub room_none : cap ≤ length rs → Gap at (at row) rs i → false ≡ has_room at cap row rs
     room_none l q = sym (or_from (holds at (at row) rs) (ltb (length rs) cap) (ap is_some (lookup_absent rs (at row) i q.parts asc q.none)) (le-ltb (length rs) cap l))
 
-take_set_any : {X : Type 0} (xs : List X) (n i : ℕ) (a : X) → take n (set xs i a) ≡ set (take n xs) i a
-take_set_any xs zero i a = refl
-take_set_any [] (suc n) i a = refl
-take_set_any (x ∷ xs) (suc n) zero a = refl
-take_set_any (x ∷ xs) (suc n) (suc i) a = ap (λ t. x ∷ t) (take_set_any xs n i a)
-
 -- a row written over another among the first ones
 pub written_over : {R : Type 0} (at : R → ℕ) (rows : List R) (len i : ℕ) (row : R) → Ascending at (take len rows) → Here at (at row) (take len rows) i → take len (set rows i row) ≡ with_row at row (take len rows)
 written_over at rows len i row asc h = take_set_any rows len i row ∙ set_present at (take len rows) (at row) i h.parts asc h.within h.is row refl
+
+-- the rows after a block of them moved within `rows`, which leaves `left`
+module _ {R : Type 0} (at : R → ℕ) (rows left : List R) (len i : ℕ) (asc : Ascending at (take len rows)) (fits : len ≤ length rows) where
+  long : length (take len rows) ≡ len
+  long = length-take-le len rows fits
+
+  -- a row put between those below its view and those above it
+  pub put_between : (row : R) → Gap at (at row) (take len rows) i → len < length rows → left ≡ copy_within rows i len (i + 1) → take (len + 1) (set left i row) ≡ with_row at row (take len rows)
+  put_between row q l e = ap (λ xs. take (len + 1) (set xs i row)) e ∙ put_is rows i len row (omega (arith, long, q.parts.within)) l ∙ put_absent at (take len rows) (at row) i q.parts asc q.none row refl
+
+  pub below_place : (v : ℕ) → Gap at v (take len rows) i → len < length rows → left ≡ copy_within rows i len (i + 1) → take i left ≡ take i rows
+  below_place v q l e =
+      let w = q.parts.within in
+      let less = sym (take-take i (i + 1) left (omega arith)) in
+      less ∙ ap (λ xs. take i (take (i + 1) xs)) e ∙ ap (take i) (moved_above rows i len (i + 1) (omega (arith, long)) fits (omega (arith, long))) ∙ take-take i (i + 1) rows (omega arith)
+
+  -- the row of a view cut out
+  pub cut_out : (v : ℕ) → Here at v (take len rows) i → left ≡ copy_within rows (i + 1) len i → take (len - 1) left ≡ without at v (take len rows)
+  cut_out v h e = ap (take (len - 1)) e ∙ cut_is rows i len (omega (arith, long, h.within)) fits ∙ cut_present at (take len rows) v i h.parts asc h.within h.is
+
+  -- the rows below those that an order keeps cut off
+  pub cut_off : (p : ℕ → Bool) → Parts at p (take len rows) i → left ≡ copy_within rows i len 0 → take (len - i) left ≡ kept at p (take len rows)
+  cut_off p q e = ap (take (len - i)) e ∙ cut_off_is rows i len (omega (arith, long, q.within)) fits ∙ sym (kept_is at p (take len rows) i q)
+
+-- a fact of a row that stands, told of its view
+seen : {R : Type 0} (at : R → ℕ) (rs : List R) (k : ℕ) → k < length rs → (P : ℕ → Type 0) → ((d : R) → P (at (get_or rs k d))) → P (get_or (views at rs) k 0)
+seen at [] k h P f = absurd (omega arith)
+seen at (r ∷ rs) k h P f = subst P (sym (view_of at (r ∷ rs) k r h)) (f r)
+
+-- the place that a search finds parts the rows
+pub parts_found : {R : Type 0} (at : R → ℕ) (p : ℕ → Bool) (rs : List R) (i : ℕ) → i ≤ length rs → IsPartitionPoint (λ r. not (p (at r)) ≡ true) (λ r. not (p (at r)) ≡ false) rs i → Parts at p rs i
+parts_found at p rs i l q = record {
+  within = l;
+  before = λ k h. seen at rs k (omega arith) (λ v. p v ≡ false) (λ d. not-true (p (at (get_or rs k d))) (q.0 k d (omega arith) h));
+  after = λ k h m. seen at rs k m (λ v. p v ≡ true) (λ d. not-false (p (at (get_or rs k d))) (q.1 k d h m));
+}
+
+-- where a row is not kept, neither are the earlier ones
+pub partitioned : {R : Type 0} (at : R → ℕ) (p : ℕ → Bool) → ((u v : ℕ) → u ≤ v → p u ≡ true → p v ≡ true) → (rs : List R) → Ascending at rs → IsPartitionedBy (λ r. not (p (at r))) rs
+partitioned at p law rs asc i j d le h t = elim (cases_Bool (p (at (get_or rs i d)))) [
+  | inl k ↦ let u = view_of at rs i d (omega arith) in let v = view_of at rs j d h in
+      absurd (both_ways (p (at (get_or rs j d))) (not-true (p (at (get_or rs j d))) t) (law (at (get_or rs i d)) (at (get_or rs j d)) (omega (arith, rises at rs asc i j le h)) k))
+  | inr f ↦ not_from_false (p (at (get_or rs i d))) f
+]

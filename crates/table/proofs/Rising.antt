@@ -1,9 +1,10 @@
 -- Rows still ascend after each change.
-use Rattle.std.proofs.Common.{◌≡◌, ℕ, zero, suc, ◌<◌, Bool, true, not, eqb, ltb, List, [], ◌∷◌, ◌++◌, filter, arith}
+use Rattle.std.proofs.Common.{◌≡◌, ℕ, zero, suc, ◌<◌, ◌≤◌, Bool, true, not, eqb, ltb, List, [], ◌∷◌, ◌++◌, filter, get_or, take, sym, ap, ◌∙◌, arith}
 use Rattle.std.specs.List.{AllByRecursion as All}
 use Rattle.std.proofs.ByRecursion.{all_from_every, All-get_or, All-append, All-weaker, all_kept_by, kept_by_passes}
+use Rattle.std.proofs.lemmas.List.{length-take, take-map, get_or-take}
 use Rattle.std.proofs.lemmas.Bool.{cond_both, ltb-true}
-use Rattle.table.specs.Rows.{Ascending, below, beyond, with_row, without, kept}
+use Rattle.table.specs.Rows.{views, Ascending, below, beyond, with_row, without, kept}
 use Rattle.table.proofs.Placing.{view_of}
 
 module _ {R : Type 0} (at : R → ℕ) where
@@ -54,3 +55,12 @@ module _ {R : Type 0} (at : R → ℕ) where
       ascending_from (with_row at r rs) (up_around (below at (at r) rs) (beyond at (at r) rs) r (up_kept (λ s. ltb (at s) (at r)) rs u) (up_kept (λ s. ltb (at r) (at s)) rs u)
       (All-weaker (λ s. ltb (at s) (at r) ≡ true) (λ s. at s < at r) (λ s h. ltb-true (at s) (at r) h) (below at (at r) rs) (kept_by_passes (λ s. ltb (at s) (at r)) rs))
       (All-weaker (λ s. ltb (at r) (at s) ≡ true) (λ s. at r < at s) (λ s h. ltb-true (at r) (at s) h) (beyond at (at r) rs) (kept_by_passes (λ s. ltb (at r) (at s)) rs)))
+
+  -- so do the first of them
+  pub fewer_rise : (len : ℕ) (rows : List R) → Ascending at (take len rows) → (n : ℕ) → n ≤ len → Ascending at (take n rows)
+  fewer_rise len rows asc n le i j ij jl =
+      let l = length-take n rows in
+      let m = length-take len rows in
+      let first = λ (k : ℕ) (h : k < n). ap (λ vs. get_or vs k 0) (sym (take-map at n rows)) ∙ get_or-take n (views at rows) k 0 h in
+      let all = λ (k : ℕ) (h : k < len). ap (λ vs. get_or vs k 0) (sym (take-map at len rows)) ∙ get_or-take len (views at rows) k 0 h in
+      omega (arith, first i (omega arith), first j (omega arith), all i (omega arith), all j (omega arith), asc i j ij (omega arith))

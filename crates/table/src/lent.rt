@@ -1,24 +1,26 @@
-ghost use Rattle.std.specs.Prelude.{◌≡◌, ◌<◌, ◌≤◌, [], length, take, if◌then◌else◌, MatchOption, slice_index_or};
-ghost use Rattle.table.specs.Rows.{lookup, holds, highest, without, with_row, has_room, kept};
+ghost use Rattle.std.specs.Prelude.{◌≡◌, ◌<◌, ◌≤◌, [], length, take, if◌then◌else◌, MatchOption, MatchResult, slice_index_or};
+ghost use Rattle.table.specs.Rows.{Ascending, lookup, holds, highest, without, with_row, has_room, kept, Parts, Here, Gap};
 ghost use Rattle.table.specs.Laws.{NothingFound, OfItsView, FoundItself, Nearest, OneMore, Counted, OneLess, OnlyKept, NoMore};
-ghost use Rattle.table.specs.Tables.{entries, capacity, Rises};
 
-use crate::{Order, rows};
+use crate::{From, Order, Past};
 use views::{View, Viewable};
 
 /// Rows in ascending order of their views, in a slice that the host lends. Places past the rows are free.
 #[derive(Drop)]
-pub struct Table<'a, R> {
+pub struct Table<'a, R: Viewable> {
     rows: &'a mut [R],
     len: usize,
+    ghost fits: { len ≤ length rows.now },
+    ghost rises: { Ascending R.viewed (take len rows.now) },
 }
 
 impl<'a, R: Copy + Viewable> Table<'a, R> {
+    ghost use Rattle.table.specs.Tables.{entries, capacity};
+
     /// The empty table.
     pub fn new(rows: &'a mut [R]) -> Table<'a, R>
         ensures rows { entries result ≡ [] }
         ensures cap { capacity result ≡ length rows.old }
-        ensures rises { Rises R.Viewable.viewed result }
         ensures nothing_found { NothingFound R.Viewable.viewed (entries result) }
     {
         Table { rows, len: 0 }
@@ -30,24 +32,50 @@ impl<'a, R: Copy + Viewable> Table<'a, R> {
         ensures bound { result ≤ capacity self.now }
         ensures first { take result self.now.rows.now ≡ entries self.now }
     {
-        if self.len < self.rows.len() {
-            self.len
-        } else {
-            self.rows.len()
+        self.as_slice().len()
+    }
+
+    /// The rows, in ascending order of their views.
+    pub fn as_slice(&self) -> &[R]
+        ensures rows { result.now ≡ entries self.now }
+        ensures rises { Ascending R.Viewable.viewed result.now }
+    {
+        &self.rows[..self.len]
+    }
+
+    /// How many rows an order does not keep. They stand below those that it keeps.
+    fn first_kept<O: Order>(&self, order: &O) -> usize
+        ensures { Parts R.Viewable.viewed (O.Order.keeping order.now) (entries self.now) result }
+    {
+        self.as_slice()
+            .partition_point(|row| !order.keeps(row.view()))
+    }
+
+    /// Where the row of `view` stands, or else where it would.
+    fn find(&self, view: View) -> Result<usize, usize>
+        ensures { MatchResult result (Here R.Viewable.viewed view (entries self.now)) (Gap R.Viewable.viewed view (entries self.now)) }
+    {
+        let at = self.first_kept(&From(view));
+        match self.as_slice().get(at) {
+            Some(row) if row.view() == view => Ok(at),
+            _ => Err(at),
         }
     }
 
     /// The row of `view`, if there is one.
     pub fn get(&self, view: View) -> Option<R>
-        ensures value { Rises R.Viewable.viewed self.now → result ≡ lookup R.Viewable.viewed view (entries self.now) }
-        ensures of_its_view { Rises R.Viewable.viewed self.now → OfItsView R.Viewable.viewed view result }
+        ensures value { result ≡ lookup R.Viewable.viewed view (entries self.now) }
+        ensures of_its_view { OfItsView R.Viewable.viewed view result }
     {
-        rows::get(self.rows, self.len(), view)
+        match self.find(view) {
+            Ok(at) => Some(self.as_slice()[at]),
+            Err(_) => None,
+        }
     }
 
     /// Whether there is a row of `view`.
     pub fn contains(&self, view: View) -> bool
-        ensures { Rises R.Viewable.viewed self.now → result ≡ holds R.Viewable.viewed view (entries self.now) }
+        ensures { result ≡ holds R.Viewable.viewed view (entries self.now) }
     {
         self.get(view).is_some()
     }
@@ -55,60 +83,71 @@ impl<'a, R: Copy + Viewable> Table<'a, R> {
     /// The row at the place `i`, counted from 0, if there are so many.
     pub fn nth(&self, i: usize) -> Option<R>
         ensures value { MatchOption result (length (entries self.now) ≤ i) (λ x. (i < length (entries self.now)) × (x ≡ slice_index_or (entries self.now) i x)) }
-        ensures found_itself { Rises R.Viewable.viewed self.now → FoundItself R.Viewable.viewed (entries self.now) result }
+        ensures found_itself { FoundItself R.Viewable.viewed (entries self.now) result }
     {
-        rows::nth(self.rows, self.len(), i)
+        self.as_slice().get(i).copied()
     }
 
     /// The highest row at or below `view`, if there is one.
     pub fn last_to(&self, view: View) -> Option<R>
-        ensures value { Rises R.Viewable.viewed self.now → result ≡ highest R.Viewable.viewed view (entries self.now) }
-        ensures nearest { Rises R.Viewable.viewed self.now → Nearest R.Viewable.viewed view (entries self.now) result }
+        ensures value { result ≡ highest R.Viewable.viewed view (entries self.now) }
+        ensures nearest { Nearest R.Viewable.viewed view (entries self.now) result }
     {
-        rows::last_to(self.rows, self.len(), view)
+        let n = self.first_kept(&Past(view));
+        self.as_slice()[..n].last().copied()
     }
 
     /// Puts a row into the table, in the place of one of its view if there is one; `false`, with no change, where
     /// no place is free.
     pub fn insert(&mut self, row: R) -> bool
-        ensures room { Rises R.Viewable.viewed self.old → result ≡ has_room R.Viewable.viewed (capacity self.old) row (entries self.old) }
-        ensures rows { Rises R.Viewable.viewed self.old → entries self.new ≡ (if result then with_row R.Viewable.viewed row (entries self.old) else entries self.old) }
-        ensures one_more { Rises R.Viewable.viewed self.old → OneMore R.Viewable.viewed result row (entries self.old) (entries self.new) }
-        ensures counted { Rises R.Viewable.viewed self.old → Counted R.Viewable.viewed result row (entries self.old) (entries self.new) }
+        ensures room { result ≡ has_room R.Viewable.viewed (capacity self.old) row (entries self.old) }
+        ensures rows { entries self.new ≡ (if result then with_row R.Viewable.viewed row (entries self.old) else entries self.old) }
+        ensures one_more { OneMore R.Viewable.viewed result row (entries self.old) (entries self.new) }
+        ensures counted { Counted R.Viewable.viewed result row (entries self.old) (entries self.new) }
         ensures cap { capacity self.new ≡ capacity self.old }
-        ensures rises { Rises R.Viewable.viewed self.old → Rises R.Viewable.viewed self.new }
     {
-        let len = self.len();
-        match rows::insert(self.rows, len, row) {
-            Some(n) => {
-                self.len = n;
-                true
+        match self.find(row.view()) {
+            Ok(at) => self.rows[at] = row,
+            Err(at) => {
+                let len = self.len;
+                if len == self.rows.len() {
+                    return false;
+                }
+                // Until the row stands, only those below it count.
+                self.len = at;
+                self.rows.copy_within(at..len, at + 1);
+                self.rows[at] = row;
+                self.len = len + 1;
             }
-            None => false,
         }
+        true
     }
 
     /// Removes the row of `view`, if there is one.
     pub fn remove(&mut self, view: View)
-        ensures rows { Rises R.Viewable.viewed self.old → entries self.new ≡ without R.Viewable.viewed view (entries self.old) }
-        ensures one_less { Rises R.Viewable.viewed self.old → OneLess R.Viewable.viewed view (entries self.old) (entries self.new) }
-        ensures no_more { Rises R.Viewable.viewed self.old → NoMore (entries self.old) (entries self.new) }
+        ensures rows { entries self.new ≡ without R.Viewable.viewed view (entries self.old) }
+        ensures one_less { OneLess R.Viewable.viewed view (entries self.old) (entries self.new) }
+        ensures no_more { NoMore (entries self.old) (entries self.new) }
         ensures cap { capacity self.new ≡ capacity self.old }
-        ensures rises { Rises R.Viewable.viewed self.old → Rises R.Viewable.viewed self.new }
     {
-        let len = self.len();
-        self.len = rows::remove(self.rows, len, view);
+        let Ok(at) = self.find(view) else {
+            return;
+        };
+        let len = self.len;
+        self.len = len - 1;
+        self.rows.copy_within(at + 1..len, at);
     }
 
     /// Removes the rows that an order does not keep.
     pub fn retire<O: Order>(&mut self, order: &O)
-        ensures rows { Rises R.Viewable.viewed self.old → entries self.new ≡ kept R.Viewable.viewed (O.Order.keeping order.now) (entries self.old) }
-        ensures only_kept { Rises R.Viewable.viewed self.old → OnlyKept R.Viewable.viewed (O.Order.keeping order.now) (entries self.old) (entries self.new) }
-        ensures no_more { Rises R.Viewable.viewed self.old → NoMore (entries self.old) (entries self.new) }
+        ensures rows { entries self.new ≡ kept R.Viewable.viewed (O.Order.keeping order.now) (entries self.old) }
+        ensures only_kept { OnlyKept R.Viewable.viewed (O.Order.keeping order.now) (entries self.old) (entries self.new) }
+        ensures no_more { NoMore (entries self.old) (entries self.new) }
         ensures cap { capacity self.new ≡ capacity self.old }
-        ensures rises { Rises R.Viewable.viewed self.old → Rises R.Viewable.viewed self.new }
     {
-        let len = self.len();
-        self.len = rows::retire(self.rows, len, order);
+        let n = self.first_kept(order);
+        let len = self.len;
+        self.len = len - n;
+        self.rows.copy_within(n..len, 0);
     }
 }

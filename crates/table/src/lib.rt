@@ -3,9 +3,7 @@
 
 pub mod lent;
 pub mod mark;
-mod moves;
 pub mod order;
-mod rows;
 
 pub use lent::Table;
 pub use mark::Mark;

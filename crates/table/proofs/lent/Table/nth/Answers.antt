@@ -1,14 +1,10 @@
-use Rattle.std.proofs.Common.{◌≡◌, ◌<◌, ◌≤◌, length, get_or, subst, MatchOption}
+use Rattle.std.proofs.Common.{◌≡◌, ◌<◌, ◌≤◌, length, MatchOption, slice_index_or, rules}
 use Rattle.table.specs.Tables.{entries}
 use Rattle.table.proofs.Laws.{found_itself}
 use Rattle.table.proofs.lent.Table.nth.Goals as goal
 
 pub returns : goal.returns
 returns g c =
-    let i = c.args.i in
     let rs = entries c.args.self.now in
-    let is = subst (λ xs. MatchOption c.nth.result (length xs ≤ i) (λ r. (i < length xs) × (r ≡ get_or xs i r))) c.len.ensures.first c.nth.ensures in
-    record {
-      value = is;
-      found_itself = λ up. found_itself g.R.Viewable.viewed rs i c.nth.result up is;
-    }
+    let is : MatchOption c.copied.result (length rs ≤ c.args.i) (λ x. (c.args.i < length rs) × (x ≡ slice_index_or rs c.args.i x)) = search rules in
+    record { value = is; found_itself = found_itself g.R.Viewable.viewed rs c.args.i c.copied.result c.args.self.now.rises is }

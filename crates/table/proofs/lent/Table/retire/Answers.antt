@@ -1,22 +1,40 @@
-use Rattle.std.proofs.Common.{◌≡◌, take, sym, ap, ◌∙◌, subst, rules}
-use Rattle.table.specs.Rows.{Ascending, kept}
-use Rattle.table.specs.Tables.{entries, Rises}
+use Rattle.std.proofs.Common.{◌-◌, sym, subst, arith}
+use Rattle.table.specs.Rows.{Ascending}
 use Rattle.table.specs.Laws.{OnlyKept, NoMore}
+use Rattle.table.specs.Tables.{entries}
 use Rattle.table.proofs.Laws.{only_kept, no_more_kept}
-use Rattle.table.proofs.Rising.{kept_rises}
+use Rattle.table.proofs.Placing.{cut_off}
+use Rattle.table.proofs.Rising.{fewer_rise, kept_rises}
 use Rattle.table.proofs.lent.Table.retire.Goals as goal
+
+-- the lowest rows alone, until the others come down
+pub invariant_of-self : goal.invariant_of-self
+invariant_of-self g c = let t = c.args.self.now in record {
+  fits = omega (arith, t.fits);
+  rises = fewer_rise g.R.Viewable.viewed t.len t.rows.now t.rises (t.len - c.first_kept-n.result) (omega arith);
+}
+
+pub invariant_of-self-2 : goal.invariant_of-self-2
+invariant_of-self-2 g c =
+    let at = g.R.Viewable.viewed in
+    let p = g.O.Order.keeping c.args.order.now in
+    let t = c.args.self.now in
+    let left = cut_off at t.rows.now c.copy_within.new.self t.len c.first_kept-n.result t.rises t.fits p c.first_kept-n.ensures c.copy_within.ensures.after in
+    record {
+      fits = omega (arith, t.fits, c.copy_within.ensures.len);
+      rises = subst (Ascending at) (sym left) (kept_rises at p (entries t) t.rises);
+    }
 
 pub returns : goal.returns
 returns g c =
     let at = g.R.Viewable.viewed in
     let p = g.O.Order.keeping c.args.order.now in
-    let same = c.len-len.ensures.first in
-    let old = entries c.args.self.now in
-    let left : Rises at c.args.self.now → take c.retire-self.result c.retire-self.new.rows ≡ kept at p old = λ up. c.retire-self.ensures.rows (subst (Ascending at) (sym same) up) ∙ ap (kept at p) same in
+    let t = c.args.self.now in
+    let old = entries t in
+    let left = cut_off at t.rows.now c.copy_within.new.self t.len c.first_kept-n.result t.rises t.fits p c.first_kept-n.ensures c.copy_within.ensures.after in
     record {
       rows = left;
-      only_kept = λ up. subst (OnlyKept at p old) (sym (left up)) (only_kept at p old);
-      no_more = λ up. subst (NoMore old) (sym (left up)) (no_more_kept at p old);
-      cap = search rules;
-      rises = λ up. subst (Ascending at) (sym (left up)) (kept_rises at p old up);
+      only_kept = subst (OnlyKept at p old) (sym left) (only_kept at p old);
+      no_more = subst (NoMore old) (sym left) (no_more_kept at p old);
+      cap = c.copy_within.ensures.len;
     }
