@@ -15,7 +15,7 @@ returns-then-current-gt-LAST_VIEW g c =
     let positive = c.args.term_length.positive in
     record {
       refused = (c.if-current-gt-LAST_VIEW.true, refl);
-      value = λ up. tt;
+      value = tt;
       gaps_exactly = gaps_exactly L positive;
       no_growth = no_growth L positive;
       same_gaps = same_gaps L positive;
@@ -32,9 +32,9 @@ returns-then-found-most g c =
     let all = length (gaps L cov c.args.low current) in
     record {
       refused = c.if-current-gt-LAST_VIEW.false;
-      value = λ up. let f : cov anchor ≡ false = sym (c.covering.ensures.covered up) ∙ c.if-is_none.ensures in
+      value = let f : cov anchor ≡ false = sym (c.covering.ensures.covered) ∙ c.if-is_none.ensures in
           let one = ap length (gaps_open L positive cov anchor current c.loop-anchor-test.true f) in
-          let sum = c.loop-anchor.invariant.1 up in
+          let sum = c.loop-anchor.invariant.1 in
           sym (lt-ltb c.args.most all (omega (arith, c.if-found-most.true)));
       gaps_exactly = gaps_exactly L positive;
       no_growth = no_growth L positive;
@@ -60,15 +60,15 @@ loop-anchor-preserved g c =
     elim c.if-is_none.branch [
       | then-is_none+else-found-most w ↦ let found = w.found-is in (
         omega (arith, w.if-found-most.false),
-        λ up. let f : cov anchor ≡ false = sym (c.covering.ensures.covered up) ∙ c.is_none.ensures ∙ ap not w.if-is_none.true in
+        let f : cov anchor ≡ false = sym (c.covering.ensures.covered) ∙ c.is_none.ensures ∙ ap not w.if-is_none.true in
             let one = ap length (gaps_open L positive cov anchor current within f) in
-            omega (arith, c.loop-anchor.invariant.1 up),
+            omega (arith, c.loop-anchor.invariant.1),
       )
       | else-is_none w ↦ let found = w.found-is in (
         omega arith,
-        λ up. let t : cov anchor ≡ true = sym (c.covering.ensures.covered up) ∙ c.is_none.ensures ∙ ap not w.if-is_none.false in
+        let t : cov anchor ≡ true = sym (c.covering.ensures.covered) ∙ c.is_none.ensures ∙ ap not w.if-is_none.false in
             let same = ap length (gaps_covered L positive cov anchor current within t) in
-            omega (arith, c.loop-anchor.invariant.1 up),
+            omega (arith, c.loop-anchor.invariant.1),
       )
     ]
 
@@ -81,8 +81,8 @@ returns g c =
     let all = length (gaps L cov c.args.low current) in
     record {
       refused = c.if-current-gt-LAST_VIEW.false;
-      value = λ up. let none = ap length (gaps_none L positive cov c.loop-anchor.anchor current c.loop-anchor-test.false) in
-          let sum = c.loop-anchor.invariant.1 up in
+      value = let none = ap length (gaps_none L positive cov c.loop-anchor.anchor current c.loop-anchor-test.false) in
+          let sum = c.loop-anchor.invariant.1 in
           sym (le-ltb c.args.most all (omega (arith, c.loop-anchor.invariant.0)));
       gaps_exactly = gaps_exactly L positive;
       no_growth = no_growth L positive;

@@ -1,6 +1,6 @@
 use Rattle.std.proofs.Common.{◌≡◌, ◌+◌, ◌-◌, ◌≤◌, length}
 use Rattle.cover.specs.Covers.{covered}
-use Rattle.table.specs.Tables.{entries, Rises}
+use Rattle.table.specs.Tables.{entries}
 use Rattle.terms.specs.Terms.{views}
 use Rattle.planning.specs.Gaps.{gaps}
 use Rattle.planning.proofs.exceeds.Given as goal
@@ -9,7 +9,7 @@ use Rattle.planning.proofs.exceeds.Given as goal
 abbrev pub invariant-loop-anchor : goal.invariant-loop-anchor
 invariant-loop-anchor g l =
     (l.found ≤ l.most)
-    × (Rises g.R.Viewable.viewed l.nullifications → l.found + length (gaps (views l.term_length) (λ v. covered g.R.Viewable.viewed (views l.term_length) v (entries l.nullifications)) l.anchor l.current) ≡ length (gaps (views l.term_length) (λ v. covered g.R.Viewable.viewed (views l.term_length) v (entries l.nullifications)) l.low l.current))
+    × (l.found + length (gaps (views l.term_length) (λ v. covered g.R.Viewable.viewed (views l.term_length) v (entries l.nullifications)) l.anchor l.current) ≡ length (gaps (views l.term_length) (λ v. covered g.R.Viewable.viewed (views l.term_length) v (entries l.nullifications)) l.low l.current))
 
 abbrev pub decreases-loop-anchor : goal.decreases-loop-anchor
 decreases-loop-anchor g l = l.current - l.anchor

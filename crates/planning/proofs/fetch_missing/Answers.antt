@@ -1,6 +1,6 @@
 use Rattle.std.proofs.Common.{◌≡◌, ℕ, Bool, true, false, not, sym, refl, ap, ◌∙◌, subst, arith}
 use Rattle.cover.specs.Covers.{covered}
-use Rattle.table.specs.Tables.{entries, Rises}
+use Rattle.table.specs.Tables.{entries}
 use Rattle.terms.specs.Terms.{views, next}
 use Rattle.terms.proofs.Laws.{least_next}
 use Rattle.planning.specs.Gaps.{landing}
@@ -15,8 +15,8 @@ returns-then-current-gt-LAST_VIEW g c =
     let positive = c.args.term_length.positive in
     record {
       lands = (c.if-current-gt-LAST_VIEW.true, refl, refl);
-      added = λ up low room. absurd (omega (arith, c.if-current-gt-LAST_VIEW.true));
-      filled = λ up low. absurd (omega (arith, c.if-current-gt-LAST_VIEW.true));
+      added = λ low room. absurd (omega (arith, c.if-current-gt-LAST_VIEW.true));
+      filled = λ low. absurd (omega (arith, c.if-current-gt-LAST_VIEW.true));
       cursor_lands = cursor_lands L positive;
       no_anchor_skipped = no_anchor_skipped L positive;
       only_anchors = only_anchors L positive;
@@ -41,11 +41,11 @@ loop-anchor-preserved g c =
     let within = c.loop-anchor-test.true in
     let on = c.following-anchor.ensures in (
       ap (λ v. landing L v current) on ∙ lands_on L positive anchor current within ∙ c.loop-anchor.invariant.0,
-      λ up. subst (λ v. Fetched L cov low current cause v before c.if-is_none.effects) (sym on) (elim c.if-is_none.branch [
-        | then-is_none w ↦ let f : cov anchor ≡ false = sym (c.covering.ensures.covered up) ∙ c.is_none.ensures ∙ ap not w.if-is_none.true in
-            subst (λ e. Fetched L cov low current cause (next L anchor) before e) (sym w.effects-is) (past_open L positive cov low current cause anchor before here w.push.new.self within f w.push.ensures.filled (c.loop-anchor.invariant.1 up))
-        | else-is_none w ↦ let t : cov anchor ≡ true = sym (c.covering.ensures.covered up) ∙ c.is_none.ensures ∙ ap not w.if-is_none.false in
-            subst (λ e. Fetched L cov low current cause (next L anchor) before e) (sym w.effects-is) (past_covered L positive cov low current cause anchor before here within t (c.loop-anchor.invariant.1 up))
+      subst (λ v. Fetched L cov low current cause v before c.if-is_none.effects) (sym on) (elim c.if-is_none.branch [
+        | then-is_none w ↦ let f : cov anchor ≡ false = sym (c.covering.ensures.covered) ∙ c.is_none.ensures ∙ ap not w.if-is_none.true in
+            subst (λ e. Fetched L cov low current cause (next L anchor) before e) (sym w.effects-is) (past_open L positive cov low current cause anchor before here w.push.new.self within f w.push.ensures.filled (c.loop-anchor.invariant.1))
+        | else-is_none w ↦ let t : cov anchor ≡ true = sym (c.covering.ensures.covered) ∙ c.is_none.ensures ∙ ap not w.if-is_none.false in
+            subst (λ e. Fetched L cov low current cause (next L anchor) before e) (sym w.effects-is) (past_covered L positive cov low current cause anchor before here within t (c.loop-anchor.invariant.1))
       ]),
     )
 
@@ -53,7 +53,7 @@ pub loop-anchor-init : goal.loop-anchor-init
 loop-anchor-init g c =
     let L = views c.args.term_length in
     let cov : ℕ → Bool = λ v. covered g.R.Viewable.viewed L v (entries c.args.nullifications.now) in
-    (refl, λ up. none_fetched L c.args.term_length.positive cov c.args.low c.args.current c.args.cause c.args.effects.now)
+    (refl, none_fetched L c.args.term_length.positive cov c.args.low c.args.current c.args.cause c.args.effects.now)
 
 pub returns : goal.returns
 returns g c =
@@ -63,11 +63,11 @@ returns g c =
     let anchor = c.loop-anchor.anchor in
     let current = c.args.current in
     let past = c.loop-anchor-test.false in
-    let filled = λ (up : Rises g.R.Viewable.viewed c.args.nullifications.now). fetched_all L positive cov c.args.low current c.args.cause anchor c.args.effects.now c.loop-anchor.effects past (c.loop-anchor.invariant.1 up) in
+    let filled = fetched_all L positive cov c.args.low current c.args.cause anchor c.args.effects.now c.loop-anchor.effects past (c.loop-anchor.invariant.1) in
     record {
       lands = (c.if-current-gt-LAST_VIEW.false, sym (lands_here L positive anchor current past) ∙ c.loop-anchor.invariant.0);
-      added = λ up low room. none_left_out L positive cov c.args.low current c.args.cause c.args.effects.now c.loop-anchor.effects room (filled up);
-      filled = λ up low. filled up;
+      added = λ low room. none_left_out L positive cov c.args.low current c.args.cause c.args.effects.now c.loop-anchor.effects room filled;
+      filled = λ low. filled;
       cursor_lands = cursor_lands L positive;
       no_anchor_skipped = no_anchor_skipped L positive;
       only_anchors = only_anchors L positive;

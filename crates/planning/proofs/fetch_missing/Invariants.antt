@@ -1,6 +1,6 @@
 use Rattle.std.proofs.Common.{◌≡◌, ◌-◌}
 use Rattle.cover.specs.Covers.{covered}
-use Rattle.table.specs.Tables.{entries, Rises}
+use Rattle.table.specs.Tables.{entries}
 use Rattle.terms.specs.Terms.{views}
 use Rattle.planning.specs.Gaps.{landing}
 use Rattle.planning.proofs.Fetching.{Fetched}
@@ -10,7 +10,7 @@ use Rattle.planning.proofs.fetch_missing.Given as goal
 abbrev pub invariant-loop-anchor : goal.invariant-loop-anchor
 invariant-loop-anchor g l =
     (landing (views l.term_length) l.anchor l.current ≡ landing (views l.term_length) l.low l.current)
-    × (Rises g.R.Viewable.viewed l.nullifications → Fetched (views l.term_length) (λ v. covered g.R.Viewable.viewed (views l.term_length) v (entries l.nullifications)) l.low l.current l.cause l.anchor l.initial.effects l.effects)
+    × (Fetched (views l.term_length) (λ v. covered g.R.Viewable.viewed (views l.term_length) v (entries l.nullifications)) l.low l.current l.cause l.anchor l.initial.effects l.effects)
 
 abbrev pub decreases-loop-anchor : goal.decreases-loop-anchor
 decreases-loop-anchor g l = l.current - l.anchor
