@@ -1,26 +1,20 @@
 -- What a store needs, and what a call leaves.
 use Rattle.std.specs.Prelude.{◌≡◌, ℕ, ◌+◌, ◌^◌, ◌<◌, ◌≤◌, length as count}
+use Rattle.views.specs.declared.Viewable as viewable
 use Rattle.slot.specs.Slots.{places}
-use Rattle.table.specs.Tables.{capacity, Rises}
+use Rattle.table.specs.Tables.{capacity}
 use Rattle.terms.specs.Terms.{views}
 use Rattle.store.specs.declared.store.Store.{Store}
 use Rattle.effects.specs.declared.listed.Effects.{Effects}
 use Rattle.effects.specs.Lists as list
-use Rattle.store.specs.Values.{Values, mark_view, held_view, values}
+use Rattle.store.specs.Values.{Values, values}
 
 -- how many views a term has
-abbrev pub length_of : {R : Type 0} → Store R → ℕ
+abbrev pub length_of : {R : Type 0} {g : viewable.Ghosts R} → Store R g → ℕ
 length_of s = views s.term_length
 
--- the views of each table rise
-pub record Rising {R : Type 0} (s : Store R) : Type 0 where
-  pub nullifications : Rises held_view s.nullifications
-  pub pending : Rises mark_view s.pending_notarizations
-  pub certified : Rises held_view s.certified_notarizations
-  pub failed : Rises mark_view s.uncertifiable_notarizations
-
 -- each table has 128 places or more, and there is one for a finalization
-pub record Roomy {R : Type 0} (s : Store R) : Type 0 where
+pub record Roomy {R : Type 0} {g : viewable.Ghosts R} (s : Store R g) : Type 0 where
   pub finalization : 0 < places s.finalization
   pub nullifications : 128 ≤ capacity s.nullifications
   pub pending : 128 ≤ capacity s.pending_notarizations
@@ -28,7 +22,7 @@ pub record Roomy {R : Type 0} (s : Store R) : Type 0 where
   pub failed : 128 ≤ capacity s.uncertifiable_notarizations
 
 -- the places of the tables stay, and so do term length and epoch
-pub record Kept {R : Type 0} (before after : Store R) : Type 0 where
+pub record Kept {R : Type 0} {g : viewable.Ghosts R} (before after : Store R g) : Type 0 where
   pub length : after.term_length ≡ before.term_length
   pub epoch : after.epoch ≡ before.epoch
   pub finalization : places after.finalization ≡ places before.finalization
@@ -38,14 +32,13 @@ pub record Kept {R : Type 0} (before after : Store R) : Type 0 where
   pub failed : capacity after.uncertifiable_notarizations ≡ capacity before.uncertifiable_notarizations
 
 -- views that planning can go on from
-pub record Low {R : Type 0} (s : Values R) : Type 0 where
+pub record Low {R : Type 0} {g : viewable.Ghosts R} (s : Values R g) : Type 0 where
   pub floor : s.floor ≤ 2 ^ 62
   pub current : s.current ≤ 2 ^ 62
 
 -- a call leaves these values
-pub record Turned {R : Type 0} (before after : Store R) (s : Values R) : Type 0 where
+pub record Turned {R : Type 0} {g : viewable.Ghosts R} (before after : Store R g) (s : Values R g) : Type 0 where
   pub is : values after ≡ s
-  pub rising : Rising after
   pub kept : Kept before after
 
 -- a list has room for so many effects more

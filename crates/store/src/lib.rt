@@ -2,10 +2,8 @@
 #![tactic(auto)]
 
 mod calls;
-pub mod held;
 mod reads;
 mod steps;
 pub mod store;
 
-pub use held::Held;
 pub use store::{Memory, Store};

@@ -3,22 +3,20 @@ ghost use Rattle.slot.specs.Slots.{places};
 ghost use Rattle.table.specs.Tables.{capacity};
 ghost use Rattle.terms.specs.Terms.{views as views_of};
 ghost use Rattle.store.specs.Values.{values, finalized, is_covered};
-ghost use Rattle.store.specs.Ready.{Rising};
 ghost use Rattle.store.specs.Steps.{is_bare};
 ghost use Rattle.store.specs.Fresh.{fresh};
 
-use crate::{Held, Memory, Store};
+use crate::{Memory, Store};
 use cover::covering;
 use slot::Slot;
 use table::Table;
 use terms::TermLength;
-use views::View;
+use views::{View, Viewable};
 
-impl<'a, R: Copy> Store<'a, R> {
+impl<'a, R: Copy + Viewable> Store<'a, R> {
     /// Nothing recorded, at the start of a replay.
     pub fn new(term_length: TermLength, epoch: u64, memory: Memory<'a, R>) -> Store<'a, R>
         ensures values { values result ≡ fresh }
-        ensures rising { Rising result }
         ensures fixed { (result.term_length ≡ term_length) × (result.epoch ≡ epoch) }
         ensures finalization { places result.finalization ≡ length memory.entry.finalization.now }
         ensures nullifications { capacity result.nullifications ≡ length memory.entry.nullifications.now }
@@ -53,14 +51,14 @@ impl<'a, R: Copy> Store<'a, R> {
         ensures { result ≡ finalized (values self.now) }
     {
         match self.finalization.get() {
-            Some(held) => held.view,
+            Some(held) => held.view(),
             None => 0,
         }
     }
 
     /// Whether `view` still needs a nullification: it is above the floor, and none covers it.
     pub fn needs_nullification(&self, view: View) -> bool
-        ensures { Rising self.now → result ≡ is_bare (views_of self.now.term_length) (values self.now) view }
+        ensures { result ≡ is_bare (views_of self.now.term_length) (values self.now) view }
     {
         view > self.floor && covering(&self.nullifications, self.term_length, view).is_none()
     }

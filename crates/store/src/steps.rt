@@ -3,35 +3,34 @@ ghost use Rattle.effects.specs.Lists.{Added};
 ghost use Rattle.planning.specs.Gaps.{pulled};
 ghost use Rattle.slot.specs.Slots.{places as lent};
 ghost use Rattle.table.specs.Rows.{holds};
-ghost use Rattle.table.specs.Tables.{entries, capacity, Rises};
-ghost use Rattle.store.specs.Values.{values, held_view, with_pending, finalized, is_nullified, is_pending, is_certified, has_failed};
-ghost use Rattle.store.specs.Ready.{length_of, Rising, Turned, HasRoom};
+ghost use Rattle.table.specs.Tables.{entries, capacity};
+ghost use Rattle.store.specs.Values.{values, with_pending, finalized, is_nullified, is_pending, is_certified, has_failed};
+ghost use Rattle.store.specs.Ready.{length_of, Turned, HasRoom};
 ghost use Rattle.store.specs.Steps.{first_kept, nullification_counts, nullified, nullified_effects, awaiting, notarization_counts, notarized, notarized_effects, finalized_at, pruned, raised, raised_effects, certified_at, failed_at};
 
-use crate::{Held, Store};
+use crate::Store;
 use effects::{Effect, Effects, Kind};
 use table::{From, Mark, Past, Table};
 use views::{View, Viewable};
 
 /// Keeps a record, unless one of its view is kept.
-fn or_insert<R: Copy>(rows: &mut Table<Held<R>>, held: Held<R>)
-    ensures rows { Rises held_view rows.old → (holds held_view held.view (entries rows.old) ≡ false → length (entries rows.old) < capacity rows.old) → entries rows.new ≡ first_kept held (entries rows.old) }
+fn or_insert<R: Copy + Viewable>(rows: &mut Table<R>, held: R)
+    ensures rows { (holds R.Viewable.viewed (R.Viewable.viewed held) (entries rows.old) ≡ false → length (entries rows.old) < capacity rows.old) → entries rows.new ≡ first_kept R.Viewable.viewed held (entries rows.old) }
     ensures cap { capacity rows.new ≡ capacity rows.old }
-    ensures rises { Rises held_view rows.old → Rises held_view rows.new }
 {
-    if rows.contains(held.view) {
+    if rows.contains(held.view()) {
         return;
     }
     rows.insert(held);
 }
 
-impl<'a, R: Copy> Store<'a, R> {
+impl<'a, R: Copy + Viewable> Store<'a, R> {
     /// Records a nullification, unless its term is finalized.
-    pub(crate) fn nullify(&mut self, held: Held<R>, effects: &mut Effects)
-        ensures turned { Rising self.old → held.view ≤ 2 ^ 62 → (nullification_counts (length_of self.old) held.view (values self.old) ≡ true → is_nullified held.view (values self.old) ≡ false → length (entries self.old.nullifications) < capacity self.old.nullifications) → Turned self.old self.new (nullified (length_of self.old) held (values self.old)) }
-        ensures added { held.view ≤ 2 ^ 62 → HasRoom 1 effects.old → Added (nullified_effects (length_of self.old) held.view (values self.old)) effects.old effects.new }
+    pub(crate) fn nullify(&mut self, held: R, effects: &mut Effects)
+        ensures turned { R.Viewable.viewed held ≤ 2 ^ 62 → (nullification_counts (length_of self.old) (R.Viewable.viewed held) (values self.old) ≡ true → is_nullified (R.Viewable.viewed held) (values self.old) ≡ false → length (entries self.old.nullifications) < capacity self.old.nullifications) → Turned self.old self.new (nullified (length_of self.old) held (values self.old)) }
+        ensures added { R.Viewable.viewed held ≤ 2 ^ 62 → HasRoom 1 effects.old → Added (nullified_effects (length_of self.old) (R.Viewable.viewed held) (values self.old)) effects.old effects.new }
     {
-        let start = held.view;
+        let start = held.view();
         let Ok(end) = self.term_length.term_end(start) else {
             return;
         };
@@ -48,7 +47,7 @@ impl<'a, R: Copy> Store<'a, R> {
 
     /// Lets a notarization wait for its verdict, unless it passed.
     fn await_verdict(&mut self, view: View)
-        ensures { Rising self.old → (is_certified view (values self.old) ≡ false → is_pending view (values self.old) ≡ false → length (entries self.old.pending_notarizations) < capacity self.old.pending_notarizations) → Turned self.old self.new (with_pending (awaiting (length_of self.old) view (values self.old)) (values self.old)) }
+        ensures { (is_certified view (values self.old) ≡ false → is_pending view (values self.old) ≡ false → length (entries self.old.pending_notarizations) < capacity self.old.pending_notarizations) → Turned self.old self.new (with_pending (awaiting (length_of self.old) view (values self.old)) (values self.old)) }
     {
         if self.certified_notarizations.contains(view) {
             return;
@@ -58,8 +57,8 @@ impl<'a, R: Copy> Store<'a, R> {
 
     /// Records a notarization above the finalized view, unless it failed.
     pub(crate) fn notarize(&mut self, view: View, effects: &mut Effects)
-        ensures turned { Rising self.old → (notarization_counts (length_of self.old) view (values self.old) ≡ true → is_certified view (values self.old) ≡ false → is_pending view (values self.old) ≡ false → length (entries self.old.pending_notarizations) < capacity self.old.pending_notarizations) → Turned self.old self.new (notarized (length_of self.old) view (values self.old)) }
-        ensures added { Rising self.old → HasRoom 1 effects.old → Added (notarized_effects (length_of self.old) view (values self.old)) effects.old effects.new }
+        ensures turned { (notarization_counts (length_of self.old) view (values self.old) ≡ true → is_certified view (values self.old) ≡ false → is_pending view (values self.old) ≡ false → length (entries self.old.pending_notarizations) < capacity self.old.pending_notarizations) → Turned self.old self.new (notarized (length_of self.old) view (values self.old)) }
+        ensures added { HasRoom 1 effects.old → Added (notarized_effects (length_of self.old) view (values self.old)) effects.old effects.new }
     {
         if view <= self.last_finalized() {
             return;
@@ -76,10 +75,10 @@ impl<'a, R: Copy> Store<'a, R> {
     }
 
     /// Keeps a finalization that is higher than the one kept.
-    pub(crate) fn keep_finalization(&mut self, held: Held<R>)
-        ensures { Rising self.old → 0 < lent self.old.finalization → Turned self.old self.new (finalized_at (length_of self.old) held (values self.old)) }
+    pub(crate) fn keep_finalization(&mut self, held: R)
+        ensures { 0 < lent self.old.finalization → Turned self.old self.new (finalized_at (length_of self.old) held (values self.old)) }
     {
-        if held.view <= self.last_finalized() {
+        if held.view() <= self.last_finalized() {
             return;
         }
         self.finalization.put(held);
@@ -88,7 +87,7 @@ impl<'a, R: Copy> Store<'a, R> {
     /// Drops what finalization has ruled out. A term ends above the finalized view exactly if it is not below the
     /// term of the view after that.
     pub(crate) fn retire(&mut self)
-        ensures { Rising self.old → finalized (values self.old) ≤ 2 ^ 62 → Turned self.old self.new (pruned (length_of self.old) (values self.old)) }
+        ensures { finalized (values self.old) ≤ 2 ^ 62 → Turned self.old self.new (pruned (length_of self.old) (values self.old)) }
     {
         let finalized = self.last_finalized();
         let first = self.term_length.term_start(finalized.saturating_add(1));
@@ -112,7 +111,7 @@ impl<'a, R: Copy> Store<'a, R> {
 
     /// Raises the floor to a view above it.
     pub(crate) fn raise(&mut self, floor: View, effects: &mut Effects)
-        ensures turned { Rising self.old → floor ≤ 2 ^ 62 → Turned self.old self.new (raised (length_of self.old) floor (values self.old)) }
+        ensures turned { floor ≤ 2 ^ 62 → Turned self.old self.new (raised (length_of self.old) floor (values self.old)) }
         ensures added { HasRoom 1 effects.old → Added (raised_effects (length_of self.old) floor (values self.old)) effects.old effects.new }
     {
         if floor <= self.floor {
@@ -124,10 +123,10 @@ impl<'a, R: Copy> Store<'a, R> {
     }
 
     /// Keeps a notarization that passed, above the finalized view.
-    pub(crate) fn keep_certified(&mut self, held: Held<R>)
-        ensures { Rising self.old → (finalized (values self.old) < held.view → is_certified held.view (values self.old) ≡ false → length (entries self.old.certified_notarizations) < capacity self.old.certified_notarizations) → Turned self.old self.new (certified_at (length_of self.old) held (values self.old)) }
+    pub(crate) fn keep_certified(&mut self, held: R)
+        ensures { (finalized (values self.old) < R.Viewable.viewed held → is_certified (R.Viewable.viewed held) (values self.old) ≡ false → length (entries self.old.certified_notarizations) < capacity self.old.certified_notarizations) → Turned self.old self.new (certified_at (length_of self.old) held (values self.old)) }
     {
-        if held.view <= self.last_finalized() {
+        if held.view() <= self.last_finalized() {
             return;
         }
         self.certified_notarizations.insert(held);
@@ -135,7 +134,7 @@ impl<'a, R: Copy> Store<'a, R> {
 
     /// Marks a view above the finalized one as failed.
     pub(crate) fn mark_failed(&mut self, view: View)
-        ensures { Rising self.old → (finalized (values self.old) < view → has_failed view (values self.old) ≡ false → length (entries self.old.uncertifiable_notarizations) < capacity self.old.uncertifiable_notarizations) → Turned self.old self.new (failed_at (length_of self.old) view (values self.old)) }
+        ensures { (finalized (values self.old) < view → has_failed view (values self.old) ≡ false → length (entries self.old.uncertifiable_notarizations) < capacity self.old.uncertifiable_notarizations) → Turned self.old self.new (failed_at (length_of self.old) view (values self.old)) }
     {
         if view <= self.last_finalized() {
             return;

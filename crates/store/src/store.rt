@@ -1,22 +1,21 @@
-use crate::Held;
 use slot::Slot;
 use table::{Mark, Table};
 use terms::TermLength;
-use views::View;
+use views::{View, Viewable};
 
 /// The places that a host lends to one member.
 #[derive(Drop)]
 pub struct Memory<'a, R> {
-    pub finalization: &'a mut [Held<R>],
-    pub nullifications: &'a mut [Held<R>],
+    pub finalization: &'a mut [R],
+    pub nullifications: &'a mut [R],
     pub pending_notarizations: &'a mut [Mark],
-    pub certified_notarizations: &'a mut [Held<R>],
+    pub certified_notarizations: &'a mut [R],
     pub uncertifiable_notarizations: &'a mut [Mark],
 }
 
 /// What a member has recorded. Nothing is promised of the values: whoever keeps a store keeps its order.
 #[derive(Drop)]
-pub struct Store<'a, R> {
+pub struct Store<'a, R: Viewable> {
     /// How many views a term has.
     pub term_length: TermLength,
     /// The epoch of the certificates.
@@ -30,13 +29,13 @@ pub struct Store<'a, R> {
     /// Whether the journal is still being replayed, which puts planning off.
     pub replaying: bool,
     /// The highest finalization.
-    pub finalization: Slot<'a, Held<R>>,
+    pub finalization: Slot<'a, R>,
     /// Nullifications whose term ends above the finalization.
-    pub nullifications: Table<'a, Held<R>>,
+    pub nullifications: Table<'a, R>,
     /// Views whose notarization waits for a verdict.
     pub pending_notarizations: Table<'a, Mark>,
     /// Notarizations that passed.
-    pub certified_notarizations: Table<'a, Held<R>>,
+    pub certified_notarizations: Table<'a, R>,
     /// Views whose notarization failed.
     pub uncertifiable_notarizations: Table<'a, Mark>,
 }

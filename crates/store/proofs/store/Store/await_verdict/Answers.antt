@@ -8,13 +8,13 @@ use Rattle.store.proofs.store.Store.await_verdict.Goals as goal
 pub returns-then-contains : goal.returns-then-contains
 returns-then-contains g c =
     let s = c.args.self.now in
-    λ up room. turned_same s _ up (ap (λ rs. with_pending rs (values s)) (cond-true (is_certified c.args.view (values s)) _ _ (sym (c.contains.ensures up.certified) ∙ c.if-contains.true)))
+    λ room. turned_same s _ (ap (λ rs. with_pending rs (values s)) (cond-true (is_certified c.args.view (values s)) _ _ (sym (c.contains.ensures) ∙ c.if-contains.true)))
 
 pub returns : goal.returns
 returns g c =
     let s = c.args.self.now in
     let told = c.insert.ensures in
     let rs = entries s.pending_notarizations in
-    λ up room.
-    let no = sym (c.contains.ensures up.certified) ∙ c.if-contains.false in
-    turned_pending s up _ c.insert.new.self _ (goes_in mark_view (capacity s.pending_notarizations) (mark c.args.view) c.insert.result rs _ (told.room up.pending) (told.rows up.pending) (room no)) (told.rises up.pending) told.cap (ap (λ rs. with_pending rs (values s)) (cond-false (is_certified c.args.view (values s)) _ _ no))
+    λ room.
+    let no = sym (c.contains.ensures) ∙ c.if-contains.false in
+    turned_pending s _ c.insert.new.self _ (goes_in mark_view (capacity s.pending_notarizations) (mark c.args.view) c.insert.result rs _ told.room told.rows (room no)) told.cap (ap (λ rs. with_pending rs (values s)) (cond-false (is_certified c.args.view (values s)) _ _ no))

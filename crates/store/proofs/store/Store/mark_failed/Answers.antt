@@ -11,7 +11,7 @@ unfolding failed_at
 returns-then-view-last_finalized g c =
     let s = c.args.self.now in
     let v = c.args.view in
-    λ up room. turned_same s _ up (ap (λ x. with_failed x (values s)) (cond-false (ltb (finalized (values s)) v) _ _ (le-ltb (finalized (values s)) v (omega (arith, c.last_finalized.ensures, c.if-view-last_finalized.true)))))
+    λ room. turned_same s _ (ap (λ x. with_failed x (values s)) (cond-false (ltb (finalized (values s)) v) _ _ (le-ltb (finalized (values s)) v (omega (arith, c.last_finalized.ensures, c.if-view-last_finalized.true)))))
 
 pub returns : goal.returns
 unfolding failed_at
@@ -20,4 +20,4 @@ returns g c =
     let v = c.args.view in
     let told = c.insert.ensures in
     let above : finalized (values s) < v = omega (arith, c.last_finalized.ensures, c.if-view-last_finalized.false) in
-    λ up room. turned_failed s up _ c.insert.new.self _ (goes_in mark_view (capacity s.uncertifiable_notarizations) (mark c.args.view) c.insert.result (entries s.uncertifiable_notarizations) _ (told.room up.failed) (told.rows up.failed) (room above)) (told.rises up.failed) told.cap (ap (λ x. with_failed x (values s)) (cond-true (ltb (finalized (values s)) v) _ _ (lt-ltb (finalized (values s)) v above)))
+    λ room. turned_failed s _ c.insert.new.self _ (goes_in mark_view (capacity s.uncertifiable_notarizations) (mark c.args.view) c.insert.result (entries s.uncertifiable_notarizations) _ told.room told.rows (room above)) told.cap (ap (λ x. with_failed x (values s)) (cond-true (ltb (finalized (values s)) v) _ _ (lt-ltb (finalized (values s)) v above)))

@@ -6,7 +6,6 @@ pub returns : goal.returns
 unfolding fresh
 returns g c = record {
   values = cc (c.new.ensures.empty, c.new-2.ensures.rows, c.new-3.ensures.rows, c.new-4.ensures.rows, c.new-5.ensures.rows);
-  rising = record { nullifications = c.new-2.ensures.rises; pending = c.new-3.ensures.rises; certified = c.new-4.ensures.rises; failed = c.new-5.ensures.rises };
   fixed = (refl, refl);
   finalization = c.new.ensures.places;
   nullifications = c.new-2.ensures.cap;

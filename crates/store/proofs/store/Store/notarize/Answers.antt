@@ -15,8 +15,8 @@ returns-then-view-last_finalized g c =
     let v = c.args.view in
     let no : notarization_counts (length_of s) v (values s) ≡ false = and_left _ _ (le-ltb (finalized (values s)) v (omega (arith, c.last_finalized.ensures, c.if-view-last_finalized.true))) in
     record {
-      turned = λ up room. turned_same s _ up (ap (λ rs. with_pending rs (values s)) (cond-false (notarization_counts (length_of s) v (values s)) _ _ no));
-      added = λ up room. subst (λ es. Added es c.args.effects.now c.args.effects.now) (sym (cond-false (notarization_counts (length_of s) v (values s)) _ [] no)) (nothing_added c.args.effects.now);
+      turned = λ room. turned_same s _ (ap (λ rs. with_pending rs (values s)) (cond-false (notarization_counts (length_of s) v (values s)) _ _ no));
+      added = λ room. subst (λ es. Added es c.args.effects.now c.args.effects.now) (sym (cond-false (notarization_counts (length_of s) v (values s)) _ [] no)) (nothing_added c.args.effects.now);
     }
 
 pub returns-then-contains : goal.returns-then-contains
@@ -26,11 +26,11 @@ returns-then-contains g c =
     let v = c.args.view in
     let L = length_of s in
     record {
-      turned = λ up room.
-          let no : notarization_counts L v (values s) ≡ false = and_right _ _ (not_from_true (has_failed v (values s)) (sym (c.contains.ensures up.failed) ∙ c.if-contains.true)) in
-          turned_same s _ up (ap (λ rs. with_pending rs (values s)) (cond-false (notarization_counts L v (values s)) _ _ no));
-      added = λ up room.
-          let no : notarization_counts L v (values s) ≡ false = and_right _ _ (not_from_true (has_failed v (values s)) (sym (c.contains.ensures up.failed) ∙ c.if-contains.true)) in
+      turned = λ room.
+          let no : notarization_counts L v (values s) ≡ false = and_right _ _ (not_from_true (has_failed v (values s)) (sym (c.contains.ensures) ∙ c.if-contains.true)) in
+          turned_same s _ (ap (λ rs. with_pending rs (values s)) (cond-false (notarization_counts L v (values s)) _ _ no));
+      added = λ room.
+          let no : notarization_counts L v (values s) ≡ false = and_right _ _ (not_from_true (has_failed v (values s)) (sym (c.contains.ensures) ∙ c.if-contains.true)) in
           subst (λ es. Added es c.args.effects.now c.args.effects.now) (sym (cond-false (notarization_counts L v (values s)) _ [] no)) (nothing_added c.args.effects.now);
     }
 
@@ -42,10 +42,10 @@ returns g c =
     let L = length_of s in
     let above : ltb (finalized (values s)) v ≡ true = lt-ltb (finalized (values s)) v (omega (arith, c.last_finalized.ensures, c.if-view-last_finalized.false)) in
     record {
-      turned = λ up room.
-          let yes : notarization_counts L v (values s) ≡ true = and_from _ _ above (not_from_false (has_failed v (values s)) (sym (c.contains.ensures up.failed) ∙ c.if-contains.false)) in
-          subst (Turned s c.await_verdict.new.self) (sym (ap (λ rs. with_pending rs (values s)) (cond-true (notarization_counts L v (values s)) (awaiting L v (values s)) _ yes))) (c.await_verdict.ensures up (room yes));
-      added = λ up room.
-          let yes : notarization_counts L v (values s) ≡ true = and_from _ _ above (not_from_false (has_failed v (values s)) (sym (c.contains.ensures up.failed) ∙ c.if-contains.false)) in
+      turned = λ room.
+          let yes : notarization_counts L v (values s) ≡ true = and_from _ _ above (not_from_false (has_failed v (values s)) (sym (c.contains.ensures) ∙ c.if-contains.false)) in
+          subst (Turned s c.await_verdict.new.self) (sym (ap (λ rs. with_pending rs (values s)) (cond-true (notarization_counts L v (values s)) (awaiting L v (values s)) _ yes))) (c.await_verdict.ensures (room yes));
+      added = λ room.
+          let yes : notarization_counts L v (values s) ≡ true = and_from _ _ above (not_from_false (has_failed v (values s)) (sym (c.contains.ensures) ∙ c.if-contains.false)) in
           subst (λ es. Added es c.args.effects.now c.push.new.self) (sym (cond-true (notarization_counts L v (values s)) _ [] yes)) (c.push.ensures.added (omega (arith, room)));
     }

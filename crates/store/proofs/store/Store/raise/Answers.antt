@@ -16,7 +16,7 @@ returns-then-floor-self g c =
     let v = c.args.floor in
     let no = le-ltb s.floor v (omega arith) in
     record {
-      turned = λ up low. turned_same s _ up (ap (λ b. with_floor (cond b v s.floor) (with_cursor (cond b (pulled (length_of s) s.cursor v) s.cursor) (values s))) no);
+      turned = λ low. turned_same s _ (ap (λ b. with_floor (cond b v s.floor) (with_cursor (cond b (pulled (length_of s) s.cursor v) s.cursor) (values s))) no);
       added = λ room. subst (λ es. Added es c.args.effects.now c.args.effects.now) (sym (cond-false (ltb s.floor v) _ [] no)) (nothing_added c.args.effects.now);
     }
 
@@ -27,6 +27,6 @@ returns g c =
     let v = c.args.floor in
     let yes = lt-ltb s.floor v (omega arith) in
     record {
-      turned = λ up low. turned_numbers s up _ v s.current_view c.pulled_back-self.result s.replaying (ap (λ b. with_floor (cond b v s.floor) (with_cursor (cond b (pulled (length_of s) s.cursor v) s.cursor) (values s))) yes ∙ ap (λ n. with_floor v (with_cursor n (values s))) (sym (c.pulled_back-self.ensures low)));
+      turned = λ low. turned_numbers s _ v s.current_view c.pulled_back-self.result s.replaying (ap (λ b. with_floor (cond b v s.floor) (with_cursor (cond b (pulled (length_of s) s.cursor v) s.cursor) (values s))) yes ∙ ap (λ n. with_floor v (with_cursor n (values s))) (sym (c.pulled_back-self.ensures low)));
       added = λ room. subst (λ es. Added es c.args.effects.now c.push.new.self) (sym (cond-true (ltb s.floor v) _ [] yes)) (c.push.ensures.added (omega (arith, room)));
     }
