@@ -131,10 +131,7 @@ impl<'a, R: Copy + Viewable> Store<'a, R> {
     fn fetch_failed(&self, effects: &mut Effects)
         ensures { HasRoom (length (failed_bare (length_of self.now) (values self.now))) effects.old → Added (map failed_fetch (failed_bare (length_of self.now) (values self.now))) effects.old effects.new }
     {
-        for i in 0..self.uncertifiable_notarizations.len() {
-            let Some(mark) = self.uncertifiable_notarizations.nth(i) else {
-                return;
-            };
+        for mark in self.uncertifiable_notarizations.as_slice() {
             self.fetch_bare(mark.view, effects);
         }
     }
