@@ -8,7 +8,7 @@ use Rattle.planning.proofs.Cursors.{cursor_lands}
 use Rattle.planning.proofs.Gaps.{gaps_exactly}
 use Rattle.record.specs.declared.kind.Kind.{Kind}
 use Rattle.record.specs.declared.kind.Kind.TheVariants.{Notarization, Nullification, Finalization}
-use Rattle.store.specs.declared.held.Held.{Held}
+use Rattle.views.specs.declared.Viewable as viewable
 use Rattle.store.specs.Values.{Values, mark_view, is_covered, gaps_of, unplanned}
 use Rattle.store.specs.Room.{row_due, rows_held, Room, verdict_due, verdict_rows, VerdictRoom}
 use Rattle.store.specs.Steps.{settles, failed_fetch, taken_effects, seen, nullified, notarized, finalized_at, pruned, raised, finalization_taken, before_planning, planned, planned_effects, updated, updated_effects, raised_effects, judged, certified_at, passing, passed, failed_at, failing, failing_effects, certified, certified_effects, ended, replayed, replayed_effects, is_bare, failed_bare}
@@ -35,21 +35,21 @@ or_none false = refl
 room_from : (b : Bool) (n : ℕ) → (b && leb 128 n) ≡ false → b ≡ true → n < 128
 room_from b n e t = elim (and_cases b (leb 128 n) e) [ inl f ↦ absurd (both_ways b f t) | inr f ↦ leb-false 128 n f ]
 
-module _ {R : Type 0} (L : ℕ) where
-  pub record Tested (k : Kind) (h : Held R) (s : Values R) : Type 0 where
-    pub low : h.view ≤ 2 ^ 62
-    pub room : Room L k h.view s
+module _ {R : Type 0} {g : viewable.Ghosts R} (L : ℕ) where
+  pub record Tested (k : Kind) (h : R) (s : Values R g) : Type 0 where
+    pub low : (g.viewed h) ≤ 2 ^ 62
+    pub room : Room L k (g.viewed h) s
     pub gaps : gaps_over L k h s ≡ false
 
-  pub evidence_tested : (k : Kind) (h : Held R) (s : Values R) → evidence_answer L k h s ≡ Ok tt → Tested k h s
+  pub evidence_tested : (k : Kind) (h : R) (s : Values R g) → evidence_answer L k h s ≡ Ok tt → Tested k h s
   unfolding evidence_answer
   evidence_tested k h s e =
-      let a = not_refused (ltb (2 ^ 62) h.view) _ _ e in
-      let b = not_refused (row_due L k h.view s && leb 128 (rows_held L k s)) _ _ a.1 in
+      let a = not_refused (ltb (2 ^ 62) (g.viewed h)) _ _ e in
+      let b = not_refused (row_due L k (g.viewed h) s && leb 128 (rows_held L k s)) _ _ a.1 in
       let d = not_refused (gaps_over L k h s) _ _ b.1 in
-      record { low = ltb-false (2 ^ 62) h.view a.0; room = room_from (row_due L k h.view s) (rows_held L k s) b.0; gaps = d.0 }
+      record { low = ltb-false (2 ^ 62) (g.viewed h) a.0; room = room_from (row_due L k (g.viewed h) s) (rows_held L k s) b.0; gaps = d.0 }
 
-  pub verdict_tested : (b : Bool) (v : ℕ) (s : Values R) → verdict_answer L b Notarization v s ≡ Ok tt → (v ≤ 2 ^ 62) × VerdictRoom L b v s
+  pub verdict_tested : (b : Bool) (v : ℕ) (s : Values R g) → verdict_answer L b Notarization v s ≡ Ok tt → (v ≤ 2 ^ 62) × VerdictRoom L b v s
   unfolding verdict_answer
   verdict_tested b v s e =
       let a = not_refused (ltb (2 ^ 62) v) _ _ (not_refused (not (is_notarization Notarization)) NotANotarization _ e).1 in
@@ -57,24 +57,24 @@ module _ {R : Type 0} (L : ℕ) where
       (ltb-false (2 ^ 62) v a.0, room_from (verdict_due L b v s) (verdict_rows L b s) d.0)
 
   -- only a notarization passes
-  pub only_notarization : (b : Bool) (k : Kind) (v : ℕ) (s : Values R) → verdict_answer L b k v s ≡ Ok tt → verdict_answer L b Notarization v s ≡ Ok tt
+  pub only_notarization : (b : Bool) (k : Kind) (v : ℕ) (s : Values R g) → verdict_answer L b k v s ≡ Ok tt → verdict_answer L b Notarization v s ≡ Ok tt
   unfolding verdict_answer
   only_notarization b Notarization v s e = e
   only_notarization b Nullification v s e = let z : ◌≡◌ {A = ℕ} 0 1 = cc in absurd (omega arith)
   only_notarization b Finalization v s e = let z : ◌≡◌ {A = ℕ} 0 1 = cc in absurd (omega arith)
 
-  pub marker_tested : (s : Values R) → marker_answer L s ≡ Ok tt → length (gaps_of L s) ≤ 128
+  pub marker_tested : (s : Values R g) → marker_answer L s ≡ Ok tt → length (gaps_of L s) ≤ 128
   unfolding marker_answer
   marker_tested s e = ltb-false 128 (length (gaps_of L s)) (not_refused (ltb 128 (length (gaps_of L s))) _ _ e).0
 
-  seen_highest : (k : Kind) (h : Held R) (s : Values R) → (before_planning L k h s).current ≡ max s.current h.view
+  seen_highest : (k : Kind) (h : R) (s : Values R g) → (before_planning L k h s).current ≡ max s.current (g.viewed h)
   unfolding before_planning nullified notarized finalization_taken finalized_at pruned raised
   seen_highest Nullification h s = refl
   seen_highest Notarization h s = refl
   seen_highest Finalization h s = refl
 
-module _ {R : Type 0} (L : ℕ) (positive : 0 < L) (s : Values R) (ok : Lawful L s) (up : Rises s) where
-  module _ (k : Kind) (h : Held R) (fine : Tested L k h s) where
+module _ {R : Type 0} {g : viewable.Ghosts R} (L : ℕ) (positive : 0 < L) (s : Values R g) (ok : Lawful L s) (up : Rises s) where
+  module _ (k : Kind) (h : R) (fine : Tested L k h s) where
     t_sound : Sound L (before_planning L k h s)
     t_sound = sound_evidence L k h s ok.sound up fine.low fine.room
 
@@ -84,11 +84,11 @@ module _ {R : Type 0} (L : ℕ) (positive : 0 < L) (s : Values R) (ok : Lawful L
     pub evidence_few : (before_planning L k h s).replaying ≡ false → length (gaps_of L (before_planning L k h s)) ≤ 128
     evidence_few over =
         let was : s.replaying ≡ false = sym t_step.replay ∙ over in
-        elim (cases_lt s.current h.view) [
+        elim (cases_lt s.current (g.viewed h)) [
           | inl above ↦ elim (and_cases (not s.replaying) _ fine.gaps) [
             | inl f ↦ absurd (both_ways (not s.replaying) f (not_from_false s.replaying was))
-            | inr g ↦ elim (and_cases (ltb s.current h.view) _ g) [
-              | inl f ↦ absurd (both_ways (ltb s.current h.view) f (lt-ltb s.current h.view above))
+            | inr both ↦ elim (and_cases (ltb s.current (g.viewed h)) _ both) [
+              | inl f ↦ absurd (both_ways (ltb s.current (g.viewed h)) f (lt-ltb s.current (g.viewed h) above))
               | inr few ↦ ltb-false 128 (length (gaps_of L (before_planning L k h s))) few
             ]
           ]
@@ -101,12 +101,12 @@ module _ {R : Type 0} (L : ℕ) (positive : 0 < L) (s : Values R) (ok : Lawful L
       planned = planned_after L positive s (before_planning L k h s) t_step ok.planned evidence_few;
     }
 
-    pub evidence_room : length (planned_effects L h.view (before_planning L k h s)) ≤ 128
-    evidence_room = planned_few L positive (before_planning L k h s) h.view evidence_few
+    pub evidence_room : length (planned_effects L (g.viewed h) (before_planning L k h s)) ≤ 128
+    evidence_room = planned_few L positive (before_planning L k h s) (g.viewed h) evidence_few
 
     pub evidence_promises : Promises L s (updated L k h s) (updated_effects L k h s)
     evidence_promises =
-        let asks : (before_planning L k h s).replaying ≡ false → (v : ℕ) → fetched v (updated_effects L k h s) ≡ among v (unplanned L (before_planning L k h s)) = λ over v. fetched_after v (taken_effects L k h (seen L h.view s)) _ (taken_none v L k h (seen L h.view s)) ∙ planned_fetches v L h.view (before_planning L k h s) over in
+        let asks : (before_planning L k h s).replaying ≡ false → (v : ℕ) → fetched v (updated_effects L k h s) ≡ among v (unplanned L (before_planning L k h s)) = λ over v. fetched_after v (taken_effects L k h (seen L (g.viewed h) s)) _ (taken_none v L k h (seen L (g.viewed h) s)) ∙ planned_fetches v L (g.viewed h) (before_planning L k h s) over in
         record {
           no_gap_unasked = no_gap_unasked L positive s (before_planning L k h s) t_step ok.planned (updated_effects L k h s) asks;
           gaps_do_not_grow = gaps_do_not_grow L positive s (before_planning L k h s) t_step ok.planned (updated_effects L k h s) asks;
@@ -118,15 +118,15 @@ module _ {R : Type 0} (L : ℕ) (positive : 0 < L) (s : Values R) (ok : Lawful L
     pub evidence_settles : NotarizationSettlesNoNullification L s (updated L k h s) k
     evidence_settles e = subst (λ j. NoNullificationSettled L s (updated L j h s)) (sym e) (no_nullification_settled L positive s ok.sound h)
 
-  module _ (h : Held R) where
+  module _ (h : R) where
     pub passed_few : (passed L h s).replaying ≡ false → length (gaps_of L (passed L h s)) ≤ 128
     unfolding raised passing certified_at
     passed_few over = omega (arith, ok.planned.gaps_few over, no_more_gaps L positive s (passed L h s) (step_passed L positive h s) refl)
 
-    pub passed_room : length (planned_effects L h.view (passed L h s)) ≤ 128
-    passed_room = planned_few L positive (passed L h s) h.view passed_few
+    pub passed_room : length (planned_effects L (g.viewed h) (passed L h s)) ≤ 128
+    passed_room = planned_few L positive (passed L h s) (g.viewed h) passed_few
 
-  module _ (h : Held R) (low : h.view ≤ 2 ^ 62) (room : VerdictRoom L true h.view s) where
+  module _ (h : R) (low : (g.viewed h) ≤ 2 ^ 62) (room : VerdictRoom L true (g.viewed h) s) where
     p_sound : Sound L (passed L h s)
     p_sound = sound_passed L s ok.sound h up low room
 
@@ -139,7 +139,7 @@ module _ {R : Type 0} (L : ℕ) (positive : 0 < L) (s : Values R) (ok : Lawful L
     pub passed_promises : Promises L s (planned L (passed L h s)) (certified_effects L true h s)
     passed_promises =
         let es = certified_effects L true h s in
-        let asks : (passed L h s).replaying ≡ false → (v : ℕ) → fetched v es ≡ among v (unplanned L (passed L h s)) = λ over v. fetched_after v (raised_effects L h.view s) _ (raised_none v L h.view s) ∙ planned_fetches v L h.view (passed L h s) over in
+        let asks : (passed L h s).replaying ≡ false → (v : ℕ) → fetched v es ≡ among v (unplanned L (passed L h s)) = λ over v. fetched_after v (raised_effects L (g.viewed h) s) _ (raised_none v L (g.viewed h) s) ∙ planned_fetches v L (g.viewed h) (passed L h s) over in
         record {
           no_gap_unasked = no_gap_unasked L positive s (passed L h s) (step_passed L positive h s) ok.planned es asks;
           gaps_do_not_grow = gaps_do_not_grow L positive s (passed L h s) (step_passed L positive h s) ok.planned es asks;
@@ -170,13 +170,13 @@ module _ {R : Type 0} (L : ℕ) (positive : 0 < L) (s : Values R) (ok : Lawful L
       settled_only_grows = grows_failed L positive s ok.sound v;
     }
 
-  pub verdict_lawful : (b : Bool) (h : Held R) → h.view ≤ 2 ^ 62 → VerdictRoom L b h.view s → Lawful L (certified L b h s)
+  pub verdict_lawful : (b : Bool) (h : R) → (g.viewed h) ≤ 2 ^ 62 → VerdictRoom L b (g.viewed h) s → Lawful L (certified L b h s)
   verdict_lawful true h low room = passed_lawful h low room
-  verdict_lawful false h low room = failed_lawful h.view room
+  verdict_lawful false h low room = failed_lawful (g.viewed h) room
 
-  pub verdict_promises : (b : Bool) (h : Held R) → h.view ≤ 2 ^ 62 → VerdictRoom L b h.view s → Promises L s (certified L b h s) (certified_effects L b h s)
+  pub verdict_promises : (b : Bool) (h : R) → (g.viewed h) ≤ 2 ^ 62 → VerdictRoom L b (g.viewed h) s → Promises L s (certified L b h s) (certified_effects L b h s)
   verdict_promises true h low room = passed_promises h low room
-  verdict_promises false h low room = failed_promises h.view room
+  verdict_promises false h low room = failed_promises (g.viewed h) room
 
   module _ (few : length (gaps_of L s) ≤ 128) where
     -- the cursor of a state in replay, and of one that is not, leads to the same place

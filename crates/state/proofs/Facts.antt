@@ -2,29 +2,26 @@
 use Rattle.std.proofs.Common.{◌≡◌, ℕ, ◌+◌, ◌^◌, ◌<◌, ◌≤◌, Bool, true, false, [], length, is_some, sym, refl, ap, subst, arith}
 use Rattle.planning.specs.Gaps.{landing}
 use Rattle.slot.specs.Slots.{places}
-use Rattle.table.specs.Tables.{entries, capacity, Rises}
+use Rattle.table.specs.Tables.{entries, capacity}
 use Rattle.table.proofs.Laws.{nothing_found}
 use Rattle.terms.specs.Terms.{views, end}
 use Rattle.std.proofs.lemmas.Bool.{true≢false, both_ways}
+use Rattle.views.specs.declared.Viewable as viewable
 use Rattle.store.specs.declared.store.Store.{Store}
 use Rattle.store.specs.Fresh.{fresh}
 use Rattle.effects.specs.declared.listed.Effects.{Effects}
 use Rattle.effects.specs.Lists as list
-use Rattle.store.specs.Ready.{length_of, Rising, Roomy, Low, Turned, HasRoom}
+use Rattle.store.specs.Ready.{length_of, Roomy, Low, Turned, HasRoom}
 use Rattle.store.proofs.Turns.{roomy_kept}
-use Rattle.store.specs.Values.{Values, values, held_view, mark_view, finalized, is_nullified, is_pending, is_certified, has_failed, gaps_of}
+use Rattle.store.specs.Values.{Values, values, mark_view, finalized, is_nullified, is_pending, is_certified, has_failed, gaps_of}
 use Rattle.state.specs.declared.state.State.{State}
 use Rattle.state.specs.Lawful.{Lawful}
 use Rattle.state.specs.States.{held, term}
 use Rattle.state.proofs.Sounds.{Rises as Rise}
 
 -- what the ghost fields of a state say
-abbrev pub Facts : {R : Type 0} → Store R → Bool → Type 0
+abbrev pub Facts : {R : Type 0} {g : viewable.Ghosts R} → Store R g → Bool → Type 0
 Facts s fit = record {
-  nullifications_rise : Rises held_view s.nullifications;
-  pending_rise : Rises mark_view s.pending_notarizations;
-  certified_rise : Rises held_view s.certified_notarizations;
-  failed_rise : Rises mark_view s.uncertifiable_notarizations;
   finalization_fits : fit ≡ true → 0 < places s.finalization;
   nullifications_fit : fit ≡ true → 128 ≤ capacity s.nullifications;
   pending_fit : fit ≡ true → 128 ≤ capacity s.pending_notarizations;
@@ -46,15 +43,11 @@ Facts s fit = record {
   gaps_few : s.replaying ≡ false → length (gaps_of (length_of s) (values s)) ≤ 128;
 }
 
-pub facts : {R : Type 0} (s : Store R) (fit : Bool) → Rising s → (fit ≡ true → Roomy s) → Lawful (length_of s) (values s) → Facts s fit
-facts s fit up roomy ok =
+pub facts : {R : Type 0} {g : viewable.Ghosts R} (s : Store R g) (fit : Bool) → (fit ≡ true → Roomy s) → Lawful (length_of s) (values s) → Facts s fit
+facts s fit roomy ok =
     let a = ok.sound in
     let p = ok.planned in
     record {
-      nullifications_rise = up.nullifications;
-      pending_rise = up.pending;
-      certified_rise = up.certified;
-      failed_rise = up.failed;
       finalization_fits = λ t. (roomy t).finalization;
       nullifications_fit = λ t. (roomy t).nullifications;
       pending_fit = λ t. (roomy t).pending;
@@ -76,12 +69,9 @@ facts s fit up roomy ok =
       gaps_few = p.gaps_few;
     }
 
-module _ {R : Type 0} (s : State R) where
-  pub rising_of : Rising s.store
-  rising_of = record { nullifications = s.nullifications_rise; pending = s.pending_rise; certified = s.certified_rise; failed = s.failed_rise }
-
+module _ {R : Type 0} {g : viewable.Ghosts R} (s : State R g) where
   pub rises_of : Rise (held s)
-  rises_of = record { nullifications = s.nullifications_rise; pending = s.pending_rise; certified = s.certified_rise; failed = s.failed_rise }
+  rises_of = record { nullifications = s.store.nullifications.rises; pending = s.store.pending_notarizations.rises; certified = s.store.certified_notarizations.rises; failed = s.store.uncertifiable_notarizations.rises }
 
   pub roomy_of : s.fit ≡ true → Roomy s.store
   roomy_of t = record { finalization = s.finalization_fits t; nullifications = s.nullifications_fit t; pending = s.pending_fit t; certified = s.certified_fit t; failed = s.failed_fit t }
@@ -111,16 +101,16 @@ module _ {R : Type 0} (s : State R) where
   finalized_low = omega (arith, s.floor_finalized, s.floor_low)
 
   -- the facts of the state after a turn of its store
-  pub facts_after : (b : Store R) (v : Values R) → Turned s.store b v → Lawful (term s) v → Facts b s.fit
-  facts_after b v p ok = facts b s.fit p.rising (λ t. roomy_kept s.store b p.kept (roomy_of t)) (subst (λ n. Lawful n (values b)) (sym (ap views p.kept.length)) (subst (Lawful (term s)) (sym p.is) ok))
+  pub facts_after : (b : Store R g) (v : Values R g) → Turned s.store b v → Lawful (term s) v → Facts b s.fit
+  facts_after b v p ok = facts b s.fit (λ t. roomy_kept s.store b p.kept (roomy_of t)) (subst (λ n. Lawful n (values b)) (sym (ap views p.kept.length)) (subst (Lawful (term s)) (sym p.is) ok))
 
 -- a list that was cleared has room for 256 effects
 pub cleared_room : (before cleared : Effects) (n : ℕ) → list.entries cleared ≡ [] → cleared.list.now ≡ before.list.now → n ≤ 256 → 256 ≤ list.places before → HasRoom n cleared
 cleared_room before cleared n none same few room = omega (arith, few, room, ap length none, ap length same)
 
-pub fresh_lawful : {R : Type 0} (L : ℕ) → Lawful L (fresh {R = R})
+pub fresh_lawful : {R : Type 0} {g : viewable.Ghosts R} (L : ℕ) → Lawful L (fresh {R = R} {g = g})
 unfolding fresh
-fresh_lawful L = record {
+fresh_lawful {g = g} L = record {
   sound = record {
     nullifications_few = omega arith;
     pending_few = omega arith;
@@ -129,9 +119,9 @@ fresh_lawful L = record {
     floor_finalized = omega arith;
     floor_low = omega arith;
     current_low = omega arith;
-    nullifications_open = λ u t. absurd (both_ways _ (ap is_some (nothing_found held_view u)) t);
+    nullifications_open = λ u t. absurd (both_ways _ (ap is_some (nothing_found g.viewed u)) t);
     pending_above = λ u t. absurd (both_ways _ (ap is_some (nothing_found mark_view u)) t);
-    certified_above = λ u t. absurd (both_ways _ (ap is_some (nothing_found held_view u)) t);
+    certified_above = λ u t. absurd (both_ways _ (ap is_some (nothing_found g.viewed u)) t);
     failed_above = λ u t. absurd (both_ways _ (ap is_some (nothing_found mark_view u)) t);
   };
   planned = record { cursor_first = λ _. refl; cursor_lands = λ f. absurd (true≢false f); gaps_few = λ f. absurd (true≢false f) };

@@ -8,7 +8,7 @@ use Rattle.planning.specs.Gaps.{among, missing}
 use Rattle.record.specs.declared.kind.Kind.{Kind}
 use Rattle.record.specs.declared.kind.Kind.TheVariants.{Notarization, Nullification, Finalization}
 use Rattle.terms.specs.Terms.{end}
-use Rattle.store.specs.declared.held.Held.{Held}
+use Rattle.views.specs.declared.Viewable as viewable
 use Rattle.store.specs.Values.{Values, unplanned}
 use Rattle.store.specs.Steps.{settles, failed_fetch, nullification_counts, nullified_effects, notarization_counts, notarized_effects, finalization_effects, raised_effects, taken_effects, planned_effects, is_bare, failing_effects}
 use Rattle.state.specs.Laws.{fetches_gap, fetched}
@@ -37,21 +37,21 @@ module _ (v : ℕ) where
   if_due_none : (b : Bool) (e : Effect) → fetches_gap v e ≡ false → fetched v (cond b (e ∷ []) []) ≡ false
   if_due_none b e none = cond_both b (e ∷ []) [] (λ es. fetched v es ≡ false) (λ _. or_from _ _ none refl) (λ _. refl)
 
-  module _ {R : Type 0} (L : ℕ) where
-    pub taken_none : (k : Kind) (h : Held R) (s : Values R) → fetched v (taken_effects L k h s) ≡ false
+  module _ {R : Type 0} {g : viewable.Ghosts R} (L : ℕ) where
+    pub taken_none : (k : Kind) (h : R) (s : Values R g) → fetched v (taken_effects L k h s) ≡ false
     unfolding nullified_effects notarized_effects finalization_effects raised_effects
-    taken_none Nullification h s = if_due_none (nullification_counts L h.view s) (Settled ask.Nullification h.view (end L h.view)) refl
-    taken_none Notarization h s = if_due_none (notarization_counts L h.view s) (settles h.view) refl
-    taken_none Finalization h s = if_due_none (ltb s.floor h.view) (Raised h.view) refl
+    taken_none Nullification h s = if_due_none (nullification_counts L (g.viewed h) s) (Settled ask.Nullification (g.viewed h) (end L (g.viewed h))) refl
+    taken_none Notarization h s = if_due_none (notarization_counts L (g.viewed h) s) (settles (g.viewed h)) refl
+    taken_none Finalization h s = if_due_none (ltb s.floor (g.viewed h)) (Raised (g.viewed h)) refl
 
-    pub raised_none : (u : ℕ) (s : Values R) → fetched v (raised_effects L u s) ≡ false
+    pub raised_none : (u : ℕ) (s : Values R g) → fetched v (raised_effects L u s) ≡ false
     unfolding raised_effects
     raised_none u s = if_due_none (ltb s.floor u) (Raised u) refl
 
-    pub failing_none : (u : ℕ) (s : Values R) → fetched v (failing_effects L u s) ≡ false
+    pub failing_none : (u : ℕ) (s : Values R g) → fetched v (failing_effects L u s) ≡ false
     unfolding failing_effects
     failing_none u s = cond_both s.replaying [] (cond (is_bare L s u) (failed_fetch u ∷ []) []) (λ es. fetched v es ≡ false) (λ _. refl) (λ _. if_due_none (is_bare L s u) (failed_fetch u) refl)
 
-    pub planned_fetches : (cause : ℕ) (s : Values R) → s.replaying ≡ false → fetched v (planned_effects L cause s) ≡ among v (unplanned L s)
+    pub planned_fetches : (cause : ℕ) (s : Values R g) → s.replaying ≡ false → fetched v (planned_effects L cause s) ≡ among v (unplanned L s)
     unfolding planned_effects
     planned_fetches cause s over = rw over (fetched_missing cause (unplanned L s))

@@ -8,34 +8,35 @@ use Rattle.planning.specs.Laws.{Moved}
 use Rattle.planning.proofs.Gaps.{gaps_exactly, no_growth}
 use Rattle.planning.proofs.Cursors.{cursor_lands, no_anchor_skipped, only_anchors}
 use Rattle.terms.specs.Terms.{is_start}
-use Rattle.store.specs.Values.{Values, held_view, is_covered, gaps_of, unplanned}
+use Rattle.views.specs.declared.Viewable as viewable
+use Rattle.store.specs.Values.{Values, is_covered, gaps_of, unplanned}
 use Rattle.store.specs.Steps.{planned, planned_effects}
 use Rattle.state.specs.Lawful.{Planned}
 use Rattle.state.specs.Laws.{fetched, NoGapUnasked, GapsDoNotGrow, TailAsked}
 use Rattle.state.proofs.Covers.{extends}
 
 -- a change before planning
-pub record Step {R : Type 0} (L : ℕ) (s t : Values R) : Type 0 where
+pub record Step {R : Type 0} {g : viewable.Ghosts R} (L : ℕ) (s t : Values R g) : Type 0 where
   pub replay : t.replaying ≡ s.replaying
   pub floor : s.floor ≤ t.floor
   pub moved : Moved L s.floor s.current s.cursor t.floor t.current t.cursor
   pub covers : (v : ℕ) → t.floor < v → is_covered L s v ≡ true → is_covered L t v ≡ true
   pub first : s.replaying ≡ true → s.cursor ≡ 0 → t.cursor ≡ 0
 
-module _ {R : Type 0} (L : ℕ) (positive : 0 < L) (t : Values R) where
+module _ {R : Type 0} {g : viewable.Ghosts R} (L : ℕ) (positive : 0 < L) (t : Values R g) where
   -- planning comes to no more than there are
   pub few_planned : length (unplanned L t) ≤ length (gaps_of L t)
-  few_planned = no_growth L positive (is_covered L t) (is_covered L t) (t.floor + 1) (plan_start t.cursor t.floor) t.current (extends held_view L positive t.nullifications) (omega arith) (λ v above below c. c)
+  few_planned = no_growth L positive (is_covered L t) (is_covered L t) (t.floor + 1) (plan_start t.cursor t.floor) t.current (extends g.viewed L positive t.nullifications) (omega arith) (λ v above below c. c)
 
   -- so the effects of planning have room
   pub planned_few : (cause : ℕ) → (t.replaying ≡ false → length (gaps_of L t) ≤ 128) → length (planned_effects L cause t) ≤ 128
   unfolding planned_effects
   planned_few cause few = cond_both t.replaying [] (map (missing cause) (unplanned L t)) (λ es. length es ≤ 128) (λ _. omega arith) (λ over. omega (arith, length-map (unplanned L t) (missing cause), few_planned, few over))
 
-module _ {R : Type 0} (L : ℕ) (positive : 0 < L) (s t : Values R) (step : Step L s t) where
+module _ {R : Type 0} {g : viewable.Ghosts R} (L : ℕ) (positive : 0 < L) (s t : Values R g) (step : Step L s t) where
   -- as many as before at most, where the highest view stays
   pub no_more_gaps : t.current ≡ s.current → length (gaps_of L t) ≤ length (gaps_of L s)
-  no_more_gaps same = subst (λ n. length (gaps L (is_covered L t) (t.floor + 1) n) ≤ length (gaps_of L s)) (sym same) (no_growth L positive (is_covered L s) (is_covered L t) (s.floor + 1) (t.floor + 1) s.current (extends held_view L positive s.nullifications) (omega (arith, step.floor)) (λ v above below. step.covers v (omega arith)))
+  no_more_gaps same = subst (λ n. length (gaps L (is_covered L t) (t.floor + 1) n) ≤ length (gaps_of L s)) (sym same) (no_growth L positive (is_covered L s) (is_covered L t) (s.floor + 1) (t.floor + 1) s.current (extends g.viewed L positive s.nullifications) (omega (arith, step.floor)) (λ v above below. step.covers v (omega arith)))
 
   module _ (before : Planned L s) where
     pub planned_after : (t.replaying ≡ false → length (gaps_of L t) ≤ 128) → Planned L (planned L t)

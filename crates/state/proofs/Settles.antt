@@ -7,8 +7,8 @@ use Rattle.record.specs.declared.kind.Kind.{Kind}
 use Rattle.record.specs.declared.kind.Kind.TheVariants.{Notarization, Nullification, Finalization}
 use Rattle.table.specs.Rows.{lookup, holds, with_row}
 use Rattle.terms.specs.Terms.{end}
-use Rattle.store.specs.declared.held.Held.{Held}
-use Rattle.store.specs.Values.{Values, mark, mark_view, held_view, view_of, finalized, is_nullified, is_pending, is_certified, has_failed}
+use Rattle.views.specs.declared.Viewable as viewable
+use Rattle.store.specs.Values.{Values, mark, mark_view, view_of, finalized, is_nullified, is_pending, is_certified, has_failed}
 use Rattle.store.specs.Steps.{nullification_counts, nullified, notarization_counts, notarized, finalized_at, pruned, raised, finalization_taken, before_planning, planned, judged, certified_at, passing, passed, failed_at, failing, ended}
 use Rattle.state.specs.Lawful.{Sound}
 use Rattle.state.specs.Settled.{answered, settled}
@@ -17,7 +17,7 @@ use Rattle.state.proofs.Covers.{stays_covered}
 use Rattle.state.proofs.Growing.{guarded, grown_holds, grown_finds, with_row_has, kept_holds, kept_finds, without_holds}
 use Rattle.state.proofs.Steps.{covers_past}
 
-module _ {R : Type 0} (L : ℕ) (s t : Values R) (higher : finalized s ≤ finalized t) where
+module _ {R : Type 0} {g : viewable.Ghosts R} (L : ℕ) (s t : Values R g) (higher : finalized s ≤ finalized t) where
   -- it is enough that what is answered above the finalized view stays answered
   pub grows_if : ((k : Ask) (v : ℕ) → finalized t < v → answered L k v s ≡ true → answered L k v t ≡ true) → SettledOnlyGrows L s t
   unfolding settled
@@ -30,7 +30,7 @@ module _ {R : Type 0} (L : ℕ) (s t : Values R) (higher : finalized s ≤ final
   ]
 
 -- the three ways to have a notarization answered
-module _ {R : Type 0} (L : ℕ) (s t : Values R) (v : ℕ) where
+module _ {R : Type 0} {g : viewable.Ghosts R} (L : ℕ) (s t : Values R g) (v : ℕ) where
   waits : is_pending v t ≡ true → answered L ask.Notarization v t ≡ true
   waits e = or_left (is_pending v t) (is_certified v t || has_failed v t) e
 
@@ -43,41 +43,41 @@ module _ {R : Type 0} (L : ℕ) (s t : Values R) (v : ℕ) where
   each_way : (is_pending v s ≡ true → answered L ask.Notarization v t ≡ true) → (is_certified v s ≡ true → answered L ask.Notarization v t ≡ true) → (has_failed v s ≡ true → answered L ask.Notarization v t ≡ true) → answered L ask.Notarization v s ≡ true → answered L ask.Notarization v t ≡ true
   each_way by-p by-c by-f is = elim (or_cases (is_pending v s) (is_certified v s || has_failed v s) is) [ inl e ↦ by-p e | inr more ↦ elim (or_cases (is_certified v s) (has_failed v s) more) [ inl e ↦ by-c e | inr e ↦ by-f e ] ]
 
-module _ {R : Type 0} (L : ℕ) (positive : 0 < L) (s : Values R) (ok : Sound L s) where
-  pub grows_evidence : (k : Kind) (h : Held R) → SettledOnlyGrows L s (planned L (before_planning L k h s))
+module _ {R : Type 0} {g : viewable.Ghosts R} (L : ℕ) (positive : 0 < L) (s : Values R g) (ok : Sound L s) where
+  pub grows_evidence : (k : Kind) (h : R) → SettledOnlyGrows L s (planned L (before_planning L k h s))
   unfolding planned before_planning nullified notarized finalization_taken finalized_at pruned raised
   grows_evidence Nullification h = grows_if L s _ (omega arith) (elim [
-    | ask.Nullification ↦ λ v past. stays_covered held_view L v s.nullifications _ (λ u c t. subst (λ rs. holds held_view u rs ≡ true) (sym (guarded (nullification_counts L h.view s) (is_nullified h.view s) s.nullifications (with_row held_view h s.nullifications))) (grown_holds held_view (nullification_counts L h.view s && not (is_nullified h.view s)) h s.nullifications u t))
+    | ask.Nullification ↦ λ v past. stays_covered g.viewed L v s.nullifications _ (λ u c t. subst (λ rs. holds g.viewed u rs ≡ true) (sym (guarded (nullification_counts L (g.viewed h) s) (is_nullified (g.viewed h) s) s.nullifications (with_row g.viewed h s.nullifications))) (grown_holds g.viewed (nullification_counts L (g.viewed h) s && not (is_nullified (g.viewed h) s)) h s.nullifications u t))
     | ask.Notarization ↦ λ v past a. a
   ])
   grows_evidence Notarization h = grows_if L s _ (omega arith) (elim [
     | ask.Nullification ↦ λ v past a. a
     | ask.Notarization ↦ λ v past a. each_way L s (planned L (before_planning L Notarization h s)) v
-        (λ t. waits L s (planned L (before_planning L Notarization h s)) v (subst (λ rs. holds mark_view v rs ≡ true) (sym (guarded (notarization_counts L h.view s) (is_certified h.view s) s.pending (with_row mark_view (mark h.view) s.pending))) (grown_holds mark_view (notarization_counts L h.view s && not (is_certified h.view s)) (mark h.view) s.pending v t)))
+        (λ t. waits L s (planned L (before_planning L Notarization h s)) v (subst (λ rs. holds mark_view v rs ≡ true) (sym (guarded (notarization_counts L (g.viewed h) s) (is_certified (g.viewed h) s) s.pending (with_row mark_view (mark (g.viewed h)) s.pending))) (grown_holds mark_view (notarization_counts L (g.viewed h) s && not (is_certified (g.viewed h) s)) (mark (g.viewed h)) s.pending v t)))
         (λ t. passes L s (planned L (before_planning L Notarization h s)) v t)
         (λ t. fails L s (planned L (before_planning L Notarization h s)) v t) a
   ])
   grows_evidence Finalization h =
-      let f = view_of (cond (ltb (finalized s) h.view) (Some h) s.finalization) in
-      let higher : finalized s ≤ f = cond_both (ltb (finalized s) h.view) (Some h) s.finalization (λ o. finalized s ≤ view_of o) (λ t. omega (arith, ltb-true (finalized s) h.view t)) (λ _. omega arith) in
+      let f = view_of g.viewed (cond (ltb (finalized s) (g.viewed h)) (Some h) s.finalization) in
+      let higher : finalized s ≤ f = cond_both (ltb (finalized s) (g.viewed h)) (Some h) s.finalization (λ o. finalized s ≤ view_of g.viewed o) (λ t. omega (arith, ltb-true (finalized s) (g.viewed h) t)) (λ _. omega arith) in
       grows_if L s _ higher (elim [
-        | ask.Nullification ↦ λ v past. stays_covered held_view L v s.nullifications _ (λ u c t. kept_holds held_view (λ w. ltb f (end L w)) s.nullifications u (covers_past L positive f s u v past c) t)
+        | ask.Nullification ↦ λ v past. stays_covered g.viewed L v s.nullifications _ (λ u c t. kept_holds g.viewed (λ w. ltb f (end L w)) s.nullifications u (covers_past L positive f s u v past c) t)
         | ask.Notarization ↦ λ v past a. each_way L s (planned L (before_planning L Finalization h s)) v
             (λ t. waits L s (planned L (before_planning L Finalization h s)) v (kept_holds mark_view (λ w. ltb f w) s.pending v (lt-ltb f v past) t))
-            (λ t. passes L s (planned L (before_planning L Finalization h s)) v (kept_holds held_view (λ w. ltb f w) s.certified v (lt-ltb f v past) t))
+            (λ t. passes L s (planned L (before_planning L Finalization h s)) v (kept_holds g.viewed (λ w. ltb f w) s.certified v (lt-ltb f v past) t))
             (λ t. fails L s (planned L (before_planning L Finalization h s)) v (kept_holds mark_view (λ w. ltb f w) s.failed v (lt-ltb f v past) t)) a
       ])
 
-  pub grows_passed : (h : Held R) → SettledOnlyGrows L s (planned L (passed L h s))
+  pub grows_passed : (h : R) → SettledOnlyGrows L s (planned L (passed L h s))
   unfolding planned passing certified_at raised
   grows_passed h = grows_if L s _ (omega arith) (elim [
     | ask.Nullification ↦ λ v past a. a
     | ask.Notarization ↦ λ v past a. each_way L s (planned L (passed L h s)) v
-        (λ t. elim (cases_eq h.view v) [
-          | inl e ↦ passes L s (planned L (passed L h s)) v (cond_both (ltb (finalized s) h.view) (with_row held_view h s.certified) s.certified (λ rs. holds held_view v rs ≡ true) (λ b. subst (λ n. holds held_view n (with_row held_view h s.certified) ≡ true) e (ap is_some (with_row_has held_view h s.certified))) (λ b. absurd (omega (arith, ltb-false (finalized s) h.view b, e, past))))
-          | inr n ↦ waits L s (planned L (passed L h s)) v (without_holds mark_view h.view s.pending v n t)
+        (λ t. elim (cases_eq (g.viewed h) v) [
+          | inl e ↦ passes L s (planned L (passed L h s)) v (cond_both (ltb (finalized s) (g.viewed h)) (with_row g.viewed h s.certified) s.certified (λ rs. holds g.viewed v rs ≡ true) (λ b. subst (λ n. holds g.viewed n (with_row g.viewed h s.certified) ≡ true) e (ap is_some (with_row_has g.viewed h s.certified))) (λ b. absurd (omega (arith, ltb-false (finalized s) (g.viewed h) b, e, past))))
+          | inr n ↦ waits L s (planned L (passed L h s)) v (without_holds mark_view (g.viewed h) s.pending v n t)
         ])
-        (λ t. passes L s (planned L (passed L h s)) v (grown_holds held_view (ltb (finalized s) h.view) h s.certified v t))
+        (λ t. passes L s (planned L (passed L h s)) v (grown_holds g.viewed (ltb (finalized s) (g.viewed h)) h s.certified v t))
         (λ t. fails L s (planned L (passed L h s)) v t) a
   ])
 
@@ -89,7 +89,7 @@ module _ {R : Type 0} (L : ℕ) (positive : 0 < L) (s : Values R) (ok : Sound L 
         | ask.Nullification ↦ λ v past a. a
         | ask.Notarization ↦ λ v past a. each_way L s (failing L u (judged L u s)) v
             (λ t. elim (cases_eq u v) [ inl e ↦ fails L s (failing L u (judged L u s)) v (marked v past e) | inr n ↦ waits L s (failing L u (judged L u s)) v (without_holds mark_view u s.pending v n t) ])
-            (λ t. elim (cases_eq u v) [ inl e ↦ fails L s (failing L u (judged L u s)) v (marked v past e) | inr n ↦ passes L s (failing L u (judged L u s)) v (without_holds held_view u s.certified v n t) ])
+            (λ t. elim (cases_eq u v) [ inl e ↦ fails L s (failing L u (judged L u s)) v (marked v past e) | inr n ↦ passes L s (failing L u (judged L u s)) v (without_holds g.viewed u s.certified v n t) ])
             (λ t. fails L s (failing L u (judged L u s)) v (grown_holds mark_view (ltb (finalized s) u) (mark u) s.failed v t)) a
       ])
 
@@ -97,18 +97,18 @@ module _ {R : Type 0} (L : ℕ) (positive : 0 < L) (s : Values R) (ok : Sound L 
   unfolding planned
   grows_ended = grows_if L s _ (omega arith) (elim [ ask.Nullification ↦ λ v past a. a | ask.Notarization ↦ λ v past a. a ])
 
-  pub dropped_evidence : (k : Kind) (h : Held R) → DroppedOnlyWhenFinalized L s (planned L (before_planning L k h s))
+  pub dropped_evidence : (k : Kind) (h : R) → DroppedOnlyWhenFinalized L s (planned L (before_planning L k h s))
   unfolding planned before_planning nullified notarized finalization_taken finalized_at pruned raised
-  dropped_evidence Nullification h u x found = inl (ap (lookup held_view u) (guarded (nullification_counts L h.view s) (is_nullified h.view s) s.nullifications (with_row held_view h s.nullifications)) ∙ grown_finds held_view (nullification_counts L h.view s && not (is_nullified h.view s)) h s.nullifications u x (λ t. not-true _ (and_parts (nullification_counts L h.view s) (not (is_nullified h.view s)) t).1) found)
+  dropped_evidence Nullification h u x found = inl (ap (lookup g.viewed u) (guarded (nullification_counts L (g.viewed h) s) (is_nullified (g.viewed h) s) s.nullifications (with_row g.viewed h s.nullifications)) ∙ grown_finds g.viewed (nullification_counts L (g.viewed h) s && not (is_nullified (g.viewed h) s)) h s.nullifications u x (λ t. not-true _ (and_parts (nullification_counts L (g.viewed h) s) (not (is_nullified (g.viewed h) s)) t).1) found)
   dropped_evidence Notarization h u x found = inl found
   dropped_evidence Finalization h u x found =
-      let f = view_of (cond (ltb (finalized s) h.view) (Some h) s.finalization) in
+      let f = view_of g.viewed (cond (ltb (finalized s) (g.viewed h)) (Some h) s.finalization) in
       elim (cases_Bool (ltb f (end L u))) [
-        | inl t ↦ inl (kept_finds held_view (λ w. ltb f (end L w)) s.nullifications u x t found)
+        | inl t ↦ inl (kept_finds g.viewed (λ w. ltb f (end L w)) s.nullifications u x t found)
         | inr b ↦ inr (ltb-false f (end L u) b)
       ]
 
-  pub dropped_passed : (h : Held R) → DroppedOnlyWhenFinalized L s (planned L (passed L h s))
+  pub dropped_passed : (h : R) → DroppedOnlyWhenFinalized L s (planned L (passed L h s))
   unfolding planned passing certified_at raised
   dropped_passed h u x found = inl found
 
@@ -120,6 +120,6 @@ module _ {R : Type 0} (L : ℕ) (positive : 0 < L) (s : Values R) (ok : Sound L 
   unfolding planned
   dropped_ended u x found = inl found
 
-  pub no_nullification_settled : (h : Held R) → NoNullificationSettled L s (planned L (before_planning L Notarization h s))
+  pub no_nullification_settled : (h : R) → NoNullificationSettled L s (planned L (before_planning L Notarization h s))
   unfolding planned before_planning notarized settled
   no_nullification_settled h v = refl

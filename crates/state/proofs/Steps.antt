@@ -7,8 +7,8 @@ use Rattle.record.specs.declared.kind.Kind.TheVariants.{Notarization, Nullificat
 use Rattle.table.specs.Rows.{holds, with_row}
 use Rattle.terms.specs.Terms.{end, is_start}
 use Rattle.terms.proofs.Laws.{to_the_end}
-use Rattle.store.specs.declared.held.Held.{Held}
-use Rattle.store.specs.Values.{Values, held_view, view_of, finalized, is_nullified}
+use Rattle.views.specs.declared.Viewable as viewable
+use Rattle.store.specs.Values.{Values, view_of, finalized, is_nullified}
 use Rattle.store.specs.Steps.{nullification_counts, nullified, notarized, finalized_at, pruned, raised, finalization_taken, before_planning, certified_at, passing, passed, ended}
 use Rattle.state.proofs.Covers.{stays_covered}
 use Rattle.state.proofs.Moves.{Step}
@@ -27,18 +27,18 @@ module _ (L F cursor v : ℕ) where
   unfolding pulled
   raised_first z = cond_both (ltb F v) (pulled L cursor v) cursor (λ n. n ≡ 0) (λ _. cond_both (is_start L (v + 1)) cursor (min cursor (v + 1)) (λ n. n ≡ 0) (λ _. z) (λ _. omega arith)) (λ _. z)
 
-module _ {R : Type 0} (L : ℕ) (positive : 0 < L) where
+module _ {R : Type 0} {g : viewable.Ghosts R} (L : ℕ) (positive : 0 < L) where
   -- what covers a view above the finalized one is kept
-  pub covers_past : (f : ℕ) (s : Values R) (u v : ℕ) → f < v → Rattle.terms.specs.Terms.covering L u v ≡ true → ltb f (end L u) ≡ true
+  pub covers_past : (f : ℕ) (s : Values R g) (u v : ℕ) → f < v → Rattle.terms.specs.Terms.covering L u v ≡ true → ltb f (end L u) ≡ true
   covers_past f s u v past c = lt-ltb f (end L u) (omega (arith, ((to_the_end L positive u v).0 c).1))
 
-  pub step_evidence : (k : Kind) (h : Held R) (s : Values R) → finalized (before_planning L k h s) ≤ (before_planning L k h s).floor → Step L s (before_planning L k h s)
+  pub step_evidence : (k : Kind) (h : R) (s : Values R g) → finalized (before_planning L k h s) ≤ (before_planning L k h s).floor → Step L s (before_planning L k h s)
   unfolding before_planning nullified notarized finalization_taken finalized_at pruned raised
   step_evidence Nullification h s low = record {
     replay = refl;
     floor = omega arith;
     moved = record { grown = omega arith; raised = inl (refl, refl) };
-    covers = λ v above. stays_covered held_view L v s.nullifications _ (λ u c t. subst (λ rs. holds held_view u rs ≡ true) (sym (guarded (nullification_counts L h.view s) (is_nullified h.view s) s.nullifications (with_row held_view h s.nullifications))) (grown_holds held_view (nullification_counts L h.view s && not (is_nullified h.view s)) h s.nullifications u t));
+    covers = λ v above. stays_covered g.viewed L v s.nullifications _ (λ u c t. subst (λ rs. holds g.viewed u rs ≡ true) (sym (guarded (nullification_counts L (g.viewed h) s) (is_nullified (g.viewed h) s) s.nullifications (with_row g.viewed h s.nullifications))) (grown_holds g.viewed (nullification_counts L (g.viewed h) s && not (is_nullified (g.viewed h) s)) h s.nullifications u t));
     first = λ on z. z;
   }
   step_evidence Notarization h s low = record {
@@ -49,27 +49,27 @@ module _ {R : Type 0} (L : ℕ) (positive : 0 < L) where
     first = λ on z. z;
   }
   step_evidence Finalization h s low =
-      let f = view_of (cond (ltb (finalized s) h.view) (Some h) s.finalization) in
+      let f = view_of g.viewed (cond (ltb (finalized s) (g.viewed h)) (Some h) s.finalization) in
       record {
         replay = refl;
-        floor = raised_up L s.floor s.cursor h.view;
-        moved = record { grown = omega arith; raised = raised_moved L s.floor s.cursor h.view };
-        covers = λ v above. stays_covered held_view L v s.nullifications _ (λ u c t. kept_holds held_view (λ w. ltb f (end L w)) s.nullifications u (covers_past f s u v (omega (arith, low, above)) c) t);
-        first = λ on z. raised_first L s.floor s.cursor h.view z;
+        floor = raised_up L s.floor s.cursor (g.viewed h);
+        moved = record { grown = omega arith; raised = raised_moved L s.floor s.cursor (g.viewed h) };
+        covers = λ v above. stays_covered g.viewed L v s.nullifications _ (λ u c t. kept_holds g.viewed (λ w. ltb f (end L w)) s.nullifications u (covers_past f s u v (omega (arith, low, above)) c) t);
+        first = λ on z. raised_first L s.floor s.cursor (g.viewed h) z;
       }
 
-  pub step_passed : (h : Held R) (s : Values R) → Step L s (passed L h s)
+  pub step_passed : (h : R) (s : Values R g) → Step L s (passed L h s)
   unfolding passing certified_at raised
   step_passed h s = record {
     replay = refl;
-    floor = raised_up L s.floor s.cursor h.view;
-    moved = record { grown = omega arith; raised = raised_moved L s.floor s.cursor h.view };
+    floor = raised_up L s.floor s.cursor (g.viewed h);
+    moved = record { grown = omega arith; raised = raised_moved L s.floor s.cursor (g.viewed h) };
     covers = λ v above c. c;
-    first = λ on z. raised_first L s.floor s.cursor h.view z;
+    first = λ on z. raised_first L s.floor s.cursor (g.viewed h) z;
   }
 
   -- the marker, where replay was over
-  pub step_ended : (s : Values R) → s.replaying ≡ false → Step L s (ended L s)
+  pub step_ended : (s : Values R g) → s.replaying ≡ false → Step L s (ended L s)
   step_ended s over = record {
     replay = sym over;
     floor = omega arith;

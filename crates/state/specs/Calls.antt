@@ -3,29 +3,25 @@ use Rattle.std.specs.Prelude.{◌≡◌, ℕ, Bool}
 use Rattle.effects.specs.declared.listed.Effects.{Effects}
 use Rattle.effects.specs.Lists.{Listed}
 use Rattle.record.specs.declared.kind.Kind.{Kind}
-use Rattle.store.specs.declared.held.Held.{Held}
+use Rattle.views.specs.declared.Viewable as viewable
 use Rattle.store.specs.Steps.{updated, updated_effects, certified, certified_effects, replayed, replayed_effects}
 use Rattle.state.specs.declared.state.State.{State}
 use Rattle.state.specs.Laws.{Promises, NotarizationSettlesNoNullification, EveryGapAsked}
 use Rattle.state.specs.States.{held, term, epoch_of, fits}
 
--- a record as it is kept; `at` tells its view
-abbrev pub kept_as : {R : Type 0} → (R → ℕ) → R → Held R
-kept_as at r = record { view = at r; «record» = r }
-
 -- what no call changes
-pub record Fixed {R : Type 0} (before after : State R) : Type 0 where
+pub record Fixed {R : Type 0} {g : viewable.Ghosts R} (before after : State R g) : Type 0 where
   pub term : term after ≡ term before
   pub epoch : epoch_of after ≡ epoch_of before
   pub fits : fits after ≡ fits before
 
 -- a refused call changes nothing
-pub record Unchanged {R : Type 0} (before after : State R) (e e' : Effects) : Type 0 where
+pub record Unchanged {R : Type 0} {g : viewable.Ghosts R} (before after : State R g) (e e' : Effects) : Type 0 where
   pub state : after ≡ before
   pub effects : e' ≡ e
 
 -- evidence was recorded
-pub record Evidence {R : Type 0} (before after : State R) (e e' : Effects) (k : Kind) (h : Held R) : Type 0 where
+pub record Evidence {R : Type 0} {g : viewable.Ghosts R} (before after : State R g) (e e' : Effects) (k : Kind) (h : R) : Type 0 where
   pub values : held after ≡ updated (term before) k h (held before)
   pub effects : Listed (updated_effects (term before) k h (held before)) e e'
   pub fixed : Fixed before after
@@ -33,14 +29,14 @@ pub record Evidence {R : Type 0} (before after : State R) (e e' : Effects) (k : 
   pub notarization_settles_no_nullification : NotarizationSettlesNoNullification (term before) (held before) (held after) k
 
 -- a verdict was recorded
-pub record Verdict {R : Type 0} (before after : State R) (e e' : Effects) (pass : Bool) (h : Held R) : Type 0 where
+pub record Verdict {R : Type 0} {g : viewable.Ghosts R} (before after : State R g) (e e' : Effects) (pass : Bool) (h : R) : Type 0 where
   pub values : held after ≡ certified (term before) pass h (held before)
   pub effects : Listed (certified_effects (term before) pass h (held before)) e e'
   pub fixed : Fixed before after
   pub promises : Promises (term before) (held before) (held after) (certified_effects (term before) pass h (held before))
 
 -- the end of replay was recorded
-pub record Marker {R : Type 0} (before after : State R) (e e' : Effects) : Type 0 where
+pub record Marker {R : Type 0} {g : viewable.Ghosts R} (before after : State R g) (e e' : Effects) : Type 0 where
   pub values : held after ≡ replayed (term before) (held before)
   pub effects : Listed (replayed_effects (term before) (held before)) e e'
   pub fixed : Fixed before after

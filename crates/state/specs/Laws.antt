@@ -10,8 +10,8 @@ use Rattle.record.specs.declared.kind.Kind.{Kind}
 use Rattle.record.specs.declared.kind.Kind.TheVariants.{Notarization}
 use Rattle.table.specs.Rows.{lookup}
 use Rattle.terms.specs.Terms.{end, is_start}
-use Rattle.store.specs.declared.held.Held.{Held}
-use Rattle.store.specs.Values.{Values, held_view, finalized, is_covered, gaps_of}
+use Rattle.views.specs.declared.Viewable as viewable
+use Rattle.store.specs.Values.{Values, finalized, is_covered, gaps_of}
 use Rattle.state.specs.Settled.{settled}
 
 -- whether an effect fetches a gap at a view
@@ -26,11 +26,11 @@ abbrev pub fetched : ℕ → List Effect → Bool
 fetched v [] = false
 fetched v (e ∷ es) = fetches_gap v e || fetched v es
 
-module _ {R : Type 0} (L : ℕ) where
-  abbrev pub is_gap : ℕ → Values R → Bool
+module _ {R : Type 0} {g : viewable.Ghosts R} (L : ℕ) where
+  abbrev pub is_gap : ℕ → Values R g → Bool
   is_gap v s = among v (gaps_of L s)
 
-  module _ (before after : Values R) where
+  module _ (before after : Values R g) where
     -- a gap that stood before and still stands: above the floor, and uncovered
     pub record StillOpen (v : ℕ) : Type 0 where
       pub gap : is_gap v before ≡ true
@@ -55,7 +55,7 @@ module _ {R : Type 0} (L : ℕ) where
 
     -- a nullification is dropped only when its term ends at or below the finalized view
     abbrev pub DroppedOnlyWhenFinalized : Type 0
-    DroppedOnlyWhenFinalized = (u : ℕ) (h : Held R) → lookup held_view u before.nullifications ≡ Some h → (lookup held_view u after.nullifications ≡ Some h) ⊎ (end L u ≤ finalized after)
+    DroppedOnlyWhenFinalized = (u : ℕ) (h : R) → lookup g.viewed u before.nullifications ≡ Some h → (lookup g.viewed u after.nullifications ≡ Some h) ⊎ (end L u ≤ finalized after)
 
     -- what is settled stays settled
     abbrev pub SettledOnlyGrows : Type 0

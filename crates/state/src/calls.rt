@@ -2,18 +2,18 @@ ghost use Rattle.std.specs.Prelude.{◌≡◌, ◌≤◌, true, Ok as Fine, Matc
 ghost use Rattle.effects.specs.Lists.{places};
 ghost use Rattle.record.specs.declared.kind.Kind.TheVariants.{Notarization as Noted};
 ghost use Rattle.state.specs.Answers.{refused_if, too_few, if_read, evidence_answer, verdict_answer, marker_answer};
-ghost use Rattle.state.specs.Calls.{kept_as, Unchanged, Evidence, Verdict, Marker};
+ghost use Rattle.state.specs.Calls.{Unchanged, Evidence, Verdict, Marker};
 ghost use Rattle.state.specs.States.{held as values, term, fits};
 ghost use Rattle.state.specs.declared.fault.Fault.TheVariants.{TooFewPlaces as Cramped};
 
 use crate::{Fault, State};
 use effects::Effects;
 use record::{Kind, Record};
-use store::Held;
+use views::Viewable;
 
-impl<'a, R: Copy> State<'a, R> {
+impl<'a, R: Copy + Viewable> State<'a, R> {
     /// Records evidence that passed the tests.
-    fn take(&mut self, kind: Kind, held: Held<R>, effects: &mut Effects)
+    fn take(&mut self, kind: Kind, held: R, effects: &mut Effects)
         requires fit { fits self.old ≡ true }
         requires room { 256 ≤ places effects.old }
         requires tested { evidence_answer (term self.old) kind held (values self.old) ≡ Fine tt }
@@ -24,10 +24,10 @@ impl<'a, R: Copy> State<'a, R> {
     }
 
     /// Records a verdict that passed the tests.
-    fn judge(&mut self, held: Held<R>, success: bool, effects: &mut Effects)
+    fn judge(&mut self, held: R, success: bool, effects: &mut Effects)
         requires fit { fits self.old ≡ true }
         requires room { 256 ≤ places effects.old }
-        requires tested { verdict_answer (term self.old) success Noted held.view (values self.old) ≡ Fine tt }
+        requires tested { verdict_answer (term self.old) success Noted (R.Viewable.viewed held) (values self.old) ≡ Fine tt }
         ensures { Verdict self.old self.new effects.old effects.new success held }
     {
         effects.clear();
@@ -59,18 +59,13 @@ impl<'a, R: Copy> State<'a, R> {
 impl<'a, R: Record> State<'a, R> {
     /// Records evidence that has been read.
     pub fn update(&mut self, certificate: R, effects: &mut Effects) -> Result<(), Fault>
-        ensures answer { result ≡ refused_if (too_few (fits self.old) (places effects.old)) Cramped (evidence_answer (term self.old) (R.Record.sort certificate) (kept_as R.Viewable.viewed certificate) (values self.old)) }
-        ensures outcome { MatchResult result (λ _. Evidence self.old self.new effects.old effects.new (R.Record.sort certificate) (kept_as R.Viewable.viewed certificate)) (λ _. Unchanged self.old self.new effects.old effects.new) }
+        ensures answer { result ≡ refused_if (too_few (fits self.old) (places effects.old)) Cramped (evidence_answer (term self.old) (R.Record.sort certificate) certificate (values self.old)) }
+        ensures outcome { MatchResult result (λ _. Evidence self.old self.new effects.old effects.new (R.Record.sort certificate) certificate) (λ _. Unchanged self.old self.new effects.old effects.new) }
     {
         self.test_places(effects)?;
         let kind = certificate.kind();
-        let view = certificate.view();
-        let held = Held {
-            view,
-            record: certificate,
-        };
-        self.test_evidence(kind, held)?;
-        self.take(kind, held, effects);
+        self.test_evidence(kind, certificate)?;
+        self.take(kind, certificate, effects);
         Ok(())
     }
 
@@ -82,23 +77,18 @@ impl<'a, R: Record> State<'a, R> {
         effects: &mut Effects,
     ) -> Result<(), Fault>
         ensures answer { result ≡ refused_if (too_few (fits self.old) (places effects.old)) Cramped (verdict_answer (term self.old) success (R.Record.sort notarization) (R.Viewable.viewed notarization) (values self.old)) }
-        ensures outcome { MatchResult result (λ _. Verdict self.old self.new effects.old effects.new success (kept_as R.Viewable.viewed notarization)) (λ _. Unchanged self.old self.new effects.old effects.new) }
+        ensures outcome { MatchResult result (λ _. Verdict self.old self.new effects.old effects.new success notarization) (λ _. Unchanged self.old self.new effects.old effects.new) }
     {
         self.test_places(effects)?;
-        let view = notarization.view();
-        self.test_verdict(notarization.kind(), view, success)?;
-        let held = Held {
-            view,
-            record: notarization,
-        };
-        self.judge(held, success, effects);
+        self.test_verdict(notarization.kind(), notarization.view(), success)?;
+        self.judge(notarization, success, effects);
         Ok(())
     }
 
     /// Records evidence: a certificate that a peer sent, or that this member made.
     pub fn updated(&mut self, bytes: &[u8], effects: &mut Effects) -> Result<(), Fault>
-        ensures answer { result ≡ refused_if (too_few (fits self.old) (places effects.old)) Cramped (if_read (R.Record.parsed bytes.now) (λ x. evidence_answer (term self.old) (R.Record.sort x) (kept_as R.Viewable.viewed x) (values self.old))) }
-        ensures outcome { MatchResult result (λ _. (x : R) × (R.Record.parsed bytes.now ≡ Fine x) × Evidence self.old self.new effects.old effects.new (R.Record.sort x) (kept_as R.Viewable.viewed x)) (λ _. Unchanged self.old self.new effects.old effects.new) }
+        ensures answer { result ≡ refused_if (too_few (fits self.old) (places effects.old)) Cramped (if_read (R.Record.parsed bytes.now) (λ x. evidence_answer (term self.old) (R.Record.sort x) x (values self.old))) }
+        ensures outcome { MatchResult result (λ _. (x : R) × (R.Record.parsed bytes.now ≡ Fine x) × Evidence self.old self.new effects.old effects.new (R.Record.sort x) x) (λ _. Unchanged self.old self.new effects.old effects.new) }
     {
         self.test_places(effects)?;
         let certificate = R::read(bytes)?;
@@ -113,7 +103,7 @@ impl<'a, R: Record> State<'a, R> {
         effects: &mut Effects,
     ) -> Result<(), Fault>
         ensures answer { result ≡ refused_if (too_few (fits self.old) (places effects.old)) Cramped (if_read (R.Record.parsed bytes.now) (λ x. verdict_answer (term self.old) success (R.Record.sort x) (R.Viewable.viewed x) (values self.old))) }
-        ensures outcome { MatchResult result (λ _. (x : R) × (R.Record.parsed bytes.now ≡ Fine x) × Verdict self.old self.new effects.old effects.new success (kept_as R.Viewable.viewed x)) (λ _. Unchanged self.old self.new effects.old effects.new) }
+        ensures outcome { MatchResult result (λ _. (x : R) × (R.Record.parsed bytes.now ≡ Fine x) × Verdict self.old self.new effects.old effects.new success x) (λ _. Unchanged self.old self.new effects.old effects.new) }
     {
         self.test_places(effects)?;
         let notarization = R::read(bytes)?;

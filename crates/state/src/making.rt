@@ -19,8 +19,9 @@ fn suffices<R>(memory: &Memory<R>) -> bool
         && memory.certified_notarizations.len() >= ROWS
         && memory.uncertifiable_notarizations.len() >= ROWS
 }
+use views::Viewable;
 
-impl<'a, R: Copy> State<'a, R> {
+impl<'a, R: Copy + Viewable> State<'a, R> {
     /// Tests what a state is to be made over: a term length, and the places that the host would lend.
     pub fn fits(term_length: u32, memory: &Memory<R>) -> Result<TermLength, Fault>
         ensures { MatchResult result (λ l. (0 < term_length) × (views_of l ≡ term_length) × (enough memory.now ≡ true)) (λ f. ((term_length ≡ 0) × (f ≡ Terms ZeroLength)) ⊎ ((0 < term_length) × (enough memory.now ≡ false) × (f ≡ TooFewPlaces))) }

@@ -12,11 +12,10 @@ use crate::{EFFECTS, Fault, GAPS, ROWS, State};
 use effects::Effects;
 use planning::exceeds;
 use record::Kind;
-use store::Held;
 use terms::LAST_VIEW;
-use views::View;
+use views::{View, Viewable};
 
-impl<'a, R: Copy> State<'a, R> {
+impl<'a, R: Copy + Viewable> State<'a, R> {
     /// Refuses where the host lent too few places, for effects or for the state.
     pub(crate) fn test_places(&self, effects: &Effects) -> Result<(), Fault>
         ensures { result ≡ refused_if (too_few (fits self.now) (places effects.now)) Cramped (Fine tt) }
@@ -95,14 +94,14 @@ impl<'a, R: Copy> State<'a, R> {
     }
 
     /// Whether more gaps would stand after evidence than may.
-    fn too_many_gaps(&self, kind: Kind, held: Held<R>) -> bool
-        requires { held.view ≤ 2 ^ 62 }
+    fn too_many_gaps(&self, kind: Kind, held: R) -> bool
+        requires { R.Viewable.viewed held ≤ 2 ^ 62 }
         ensures { result ≡ gaps_over (term self.now) kind held (values self.now) }
     {
         if self.store.replaying {
             return false;
         }
-        let view = held.view;
+        let view = held.view();
         if view <= self.store.current_view {
             return false;
         }
@@ -111,13 +110,14 @@ impl<'a, R: Copy> State<'a, R> {
     }
 
     /// The tests of evidence, in their order.
-    pub(crate) fn test_evidence(&self, kind: Kind, held: Held<R>) -> Result<(), Fault>
+    pub(crate) fn test_evidence(&self, kind: Kind, held: R) -> Result<(), Fault>
         ensures { result ≡ evidence_answer (term self.now) kind held (values self.now) }
     {
-        if held.view > LAST_VIEW {
+        let view = held.view();
+        if view > LAST_VIEW {
             return Err(Fault::ViewTooHigh);
         }
-        if self.is_full(kind, held.view) {
+        if self.is_full(kind, view) {
             return Err(Fault::TableFull);
         }
         if self.too_many_gaps(kind, held) {

@@ -4,12 +4,11 @@ ghost use Rattle.state.specs.States.{held, term};
 
 use crate::State;
 use cover::covering;
-use store::Held;
-use views::View;
+use views::{View, Viewable};
 
-impl<'a, R: Copy> State<'a, R> {
+impl<'a, R: Copy + Viewable> State<'a, R> {
     /// The kept finalization, for a view that it settles.
-    fn finalization_for(&self, view: View) -> Option<Held<R>>
+    fn finalization_for(&self, view: View) -> Option<R>
         ensures { result ≡ finalization_for (term self.now) view (held self.now) }
     {
         if view <= self.store.last_finalized() {
@@ -20,7 +19,7 @@ impl<'a, R: Copy> State<'a, R> {
     }
 
     /// What passed at the floor, for a view that is not above it.
-    fn floor_for(&self, view: View) -> Option<Held<R>>
+    fn floor_for(&self, view: View) -> Option<R>
         ensures { result ≡ floor_for (term self.now) view (held self.now) }
     {
         if view <= self.store.floor {
@@ -31,7 +30,7 @@ impl<'a, R: Copy> State<'a, R> {
     }
 
     /// The best record for a view: finality first, then a certified notarization, as whoever proposes would choose.
-    fn served(&self, view: View) -> Option<Held<R>>
+    fn served(&self, view: View) -> Option<R>
         ensures { result ≡ serves (term self.now) view (held self.now) }
     {
         if let Some(finalization) = self.finalization_for(view) {
@@ -55,10 +54,10 @@ impl<'a, R: Copy> State<'a, R> {
         ensures found { result ≡ is_some (serves (term self.now) view (held self.now)) }
         ensures copied { place.new ≡ copied (serves (term self.now) view (held self.now)) place.old }
     {
-        let Some(held) = self.served(view) else {
+        let Some(record) = self.served(view) else {
             return false;
         };
-        *place = held.record;
+        *place = record;
         true
     }
 }

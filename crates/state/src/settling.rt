@@ -7,9 +7,9 @@ ghost use Rattle.state.specs.States.{held, term};
 use crate::State;
 use cover::covering;
 use effects::Kind;
-use views::View;
+use views::{View, Viewable};
 
-impl<'a, R: Copy> State<'a, R> {
+impl<'a, R: Copy + Viewable> State<'a, R> {
     /// Whether a notarization at `view` was recorded, or a verdict on it.
     fn notarized(&self, view: View) -> bool
         ensures { result ≡ answers (term self.now) Wanted view (held self.now) }

@@ -2,23 +2,20 @@ ghost use Rattle.std.specs.Prelude.{◌≡◌, ℕ, ◌+◌, ◌^◌, ◌<◌, �
 ghost use Rattle.planning.specs.Gaps.{landing};
 ghost use Rattle.slot.specs.Slots.{places};
 ghost use Rattle.store.specs.Ready.{length_of};
-ghost use Rattle.store.specs.Values.{values, held_view, mark_view, finalized, is_nullified, is_pending, is_certified, has_failed, gaps_of};
-ghost use Rattle.table.specs.Tables.{entries, capacity, Rises};
+ghost use Rattle.store.specs.Values.{values, finalized, is_nullified, is_pending, is_certified, has_failed, gaps_of};
+ghost use Rattle.table.specs.Tables.{entries, capacity};
 ghost use Rattle.terms.specs.Terms.{end};
 
 use store::Store;
+use views::Viewable;
 
 /// The state of one member. Every state that exists has what its ghost fields say: no floor lies below the finalized
 /// view, no row is kept that finalization has ruled out, and after replay planning has come to each gap.
 #[derive(Drop)]
-pub struct State<'a, R> {
+pub struct State<'a, R: Viewable> {
     pub(crate) store: Store<'a, R>,
     /// Whether the host lent enough places. A state over too few refuses every change.
     pub(crate) fit: bool,
-    ghost nullifications_rise: { Rises held_view store.nullifications },
-    ghost pending_rise: { Rises mark_view store.pending_notarizations },
-    ghost certified_rise: { Rises held_view store.certified_notarizations },
-    ghost failed_rise: { Rises mark_view store.uncertifiable_notarizations },
     ghost finalization_fits: { fit ≡ true → 0 < places store.finalization },
     ghost nullifications_fit: { fit ≡ true → 128 ≤ capacity store.nullifications },
     ghost pending_fit: { fit ≡ true → 128 ≤ capacity store.pending_notarizations },

@@ -19,7 +19,7 @@ pub enum Rows {
     Failed,
 }
 
-impl<'a, R: Copy> State<'a, R> {
+impl<'a, R: Copy + Viewable> State<'a, R> {
     /// How many views a term has.
     pub fn term_length(&self) -> TermLength
         ensures { views_of result ≡ term self.now }

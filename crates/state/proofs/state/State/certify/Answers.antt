@@ -9,5 +9,5 @@ judge-requires g c =
     record {
       fit = search rules;
       room = search rules;
-      tested = only_notarization (term s) c.args.success c.kind.result c.view-view.result (held s) (sym c.in_ok-test_verdict.ensures);
+      tested = rw c.view.ensures at (only_notarization {g = g.R.Viewable} (term s) c.args.success c.kind.result c.view.result (held s) (sym c.in_ok-test_verdict.ensures));
     }

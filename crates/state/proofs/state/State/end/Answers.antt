@@ -4,13 +4,13 @@ use Rattle.store.specs.Steps.{replayed_effects}
 use Rattle.state.specs.Laws.{Promises, EveryGapAsked}
 use Rattle.state.specs.States.{held, term}
 use Rattle.state.proofs.Evidence.{marker_tested, marker_lawful, marker_room, marker_promises, marker_every}
-use Rattle.state.proofs.Facts.{rising_of, rises_of, lawful_of, low_of, facts_after, cleared_room}
+use Rattle.state.proofs.Facts.{rises_of, lawful_of, low_of, facts_after, cleared_room}
 use Rattle.state.proofs.state.State.end.Goals as goal
 
 pub invariant_of-self : goal.invariant_of-self
 invariant_of-self g c =
     let s = c.args.self.now in
-    let turned = c.replayed.ensures.turned (rising_of s) (low_of s) in
+    let turned = c.replayed.ensures.turned (low_of s) in
     facts_after s c.replayed.new.self _ turned (marker_lawful (term s) s.store.term_length.positive (held s) (lawful_of s) (rises_of s) (marker_tested (term s) (held s) c.requires.tested))
 
 pub returns : goal.returns
@@ -21,8 +21,8 @@ returns g c =
     let x1 = c.clear.new.self in
     let positive = s.store.term_length.positive in
     let few = marker_tested L (held s) c.requires.tested in
-    let turned = c.replayed.ensures.turned (rising_of s) (low_of s) in
-    let added = c.replayed.ensures.added (rising_of s) (low_of s) (cleared_room x0 x1 _ c.clear.ensures.entries c.clear.ensures.list (marker_room L positive (held s) (lawful_of s) (rises_of s) few) c.requires.room) in
+    let turned = c.replayed.ensures.turned (low_of s) in
+    let added = c.replayed.ensures.added (low_of s) (cleared_room x0 x1 _ c.clear.ensures.entries c.clear.ensures.list (marker_room L positive (held s) (lawful_of s) (rises_of s) few) c.requires.room) in
     record {
       values = turned.is;
       effects = c.clear.ensures.listed_from _ x0 x1 c.replayed.new.effects c.clear.ensures.entries c.clear.ensures.list added;

@@ -4,7 +4,7 @@ use Rattle.store.specs.Steps.{certified_effects}
 use Rattle.state.specs.Laws.{Promises}
 use Rattle.state.specs.States.{held, term}
 use Rattle.state.proofs.Evidence.{verdict_tested, verdict_lawful, verdict_promises, passed_room}
-use Rattle.state.proofs.Facts.{rising_of, rises_of, roomy_of, lawful_of, low_of, facts_after, cleared_room}
+use Rattle.state.proofs.Facts.{rises_of, roomy_of, lawful_of, low_of, facts_after, cleared_room}
 use Rattle.state.proofs.state.State.judge.Goals as goal
 
 pub invariant_of-self : goal.invariant_of-self
@@ -12,8 +12,8 @@ invariant_of-self g c =
     let s = c.args.self.now in
     let b = c.args.success in
     let h = c.args.held in
-    let fine = verdict_tested (term s) b h.view (held s) c.requires.tested in
-    let turned = c.certified.ensures.turned (rising_of s) (roomy_of s c.requires.fit) (low_of s) fine.0 fine.1 in
+    let fine = verdict_tested (term s) b (g.R.Viewable.viewed h) (held s) c.requires.tested in
+    let turned = c.certified.ensures.turned (roomy_of s c.requires.fit) (low_of s) fine.0 fine.1 in
     facts_after s c.certified.new.self _ turned (verdict_lawful (term s) s.store.term_length.positive (held s) (lawful_of s) (rises_of s) b h fine.0 fine.1)
 
 pub returns : goal.returns
@@ -25,10 +25,10 @@ returns g c =
     let x0 = c.args.effects.now in
     let x1 = c.clear.new.self in
     let positive = s.store.term_length.positive in
-    let fine = verdict_tested L b h.view (held s) c.requires.tested in
-    let turned = c.certified.ensures.turned (rising_of s) (roomy_of s c.requires.fit) (low_of s) fine.0 fine.1 in
+    let fine = verdict_tested L b (g.R.Viewable.viewed h) (held s) c.requires.tested in
+    let turned = c.certified.ensures.turned (roomy_of s c.requires.fit) (low_of s) fine.0 fine.1 in
     let few = passed_room L positive (held s) (lawful_of s) (rises_of s) h in
-    let added = c.certified.ensures.added (rising_of s) (roomy_of s c.requires.fit) (low_of s) fine.0 fine.1 (cleared_room x0 x1 _ c.clear.ensures.entries c.clear.ensures.list (omega (arith, few)) c.requires.room) in
+    let added = c.certified.ensures.added (roomy_of s c.requires.fit) (low_of s) fine.0 fine.1 (cleared_room x0 x1 _ c.clear.ensures.entries c.clear.ensures.list (omega (arith, few)) c.requires.room) in
     record {
       values = turned.is;
       effects = c.clear.ensures.listed_from _ x0 x1 c.certified.new.effects c.clear.ensures.entries c.clear.ensures.list added;

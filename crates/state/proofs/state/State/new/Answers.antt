@@ -22,4 +22,4 @@ invariant_of-result g c =
       certified = omega (arith, made.certified, leb-true _ _ e.0);
       failed = omega (arith, made.failed, leb-true _ _ e.1);
     } in
-    facts c.new.result c.suffices-fit.result made.rising roomy (subst (Lawful L) (sym made.values) (fresh_lawful L))
+    facts c.new.result c.suffices-fit.result roomy (subst (Lawful L) (sym made.values) (fresh_lawful L))

@@ -16,12 +16,12 @@ returns-in-Some g c = first_is _ _ _ c.in-Some.ensures
 
 pub returns-in-Some-get : goal.returns-in-Some-get
 unfolding served
-returns-in-Some-get g c = past_none _ _ _ c.in_default.ensures (first_is _ _ _ (c.in-Some-get.ensures.value c.args.self.now.certified_rise))
+returns-in-Some-get g c = past_none _ _ _ c.in_default.ensures (first_is _ _ _ c.in-Some-get.ensures.value)
 
 pub returns-in-Some-covering : goal.returns-in-Some-covering
 unfolding served
-returns-in-Some-covering g c = past_none _ _ _ c.in_default.ensures (past_none _ _ _ (c.in_default-get.ensures.value c.args.self.now.certified_rise) (first_is _ _ _ (c.in-Some-covering.ensures.value c.args.self.now.nullifications_rise)))
+returns-in-Some-covering g c = past_none _ _ _ c.in_default.ensures (past_none _ _ _ c.in_default-get.ensures.value (first_is _ _ _ c.in-Some-covering.ensures.value))
 
 pub returns : goal.returns
 unfolding served
-returns g c = past_none _ _ _ c.in_default.ensures (past_none _ _ _ (c.in_default-get.ensures.value c.args.self.now.certified_rise) (past_none _ _ _ (c.in_default-covering.ensures.value c.args.self.now.nullifications_rise) c.floor_for.ensures))
+returns g c = past_none _ _ _ c.in_default.ensures (past_none _ _ _ c.in_default-get.ensures.value (past_none _ _ _ c.in_default-covering.ensures.value c.floor_for.ensures))

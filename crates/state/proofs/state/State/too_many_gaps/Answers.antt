@@ -16,10 +16,10 @@ returns g c =
     let s = c.args.self.now in
     let L = term s in
     let h = c.args.held in
-    let above : (held s).current < h.view = omega arith in
-    let low : c.floor_after-low.result + 1 ≡ floor_after L c.args.kind h.view (held s) + 1 = ap (λ n. n + 1) c.floor_after-low.ensures in
-    let told = c.exceeds.ensures in
+    let above : (held s).current < (g.R.Viewable.viewed h) = omega arith in
+    let low : c.floor_after-low.result + 1 ≡ floor_after L c.args.kind (g.R.Viewable.viewed h) (held s) + 1 = ap (λ n. n + 1) (rw c.view-view.ensures at c.floor_after-low.ensures) in
+    let told = rw c.view-view.ensures at c.exceeds.ensures in
     told
-    ∙ ap (λ n. ltb 128 (length (gaps L (is_covered L (held s)) n h.view))) low
+    ∙ ap (λ n. ltb 128 (length (gaps L (is_covered L (held s)) n (g.R.Viewable.viewed h)))) low
     ∙ ap (ltb 128) (sym (gaps_after L s.store.term_length.positive c.args.kind h (held s) above))
-    ∙ sym (both_pass (not (held s).replaying) (ltb (held s).current h.view) (ltb 128 (length (gaps_of L (before_planning L c.args.kind h (held s))))) (ap not c.if-self.false) (lt-ltb (held s).current h.view above))
+    ∙ sym (both_pass (not (held s).replaying) (ltb (held s).current (g.R.Viewable.viewed h)) (ltb 128 (length (gaps_of L (before_planning L c.args.kind h (held s))))) (ap not c.if-self.false) (lt-ltb (held s).current (g.R.Viewable.viewed h) above))
