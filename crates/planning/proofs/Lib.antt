@@ -1,3 +1,4 @@
 pub mod Gaps
 pub mod Cursors
 pub mod Fetching
+pub mod Walking

@@ -1,2 +1,3 @@
 pub mod Gaps
 pub mod Laws
+pub mod Left

@@ -10,24 +10,29 @@ ghost use Rattle.terms.specs.declared.fault.Fault.TheVariants.{ViewTooHigh};
 ghost use Rattle.planning.specs.Gaps.{missing, gaps, landing};
 ghost use Rattle.planning.specs.Laws.{GapsExactly, NoGrowth, SameGaps, NoGaps, CursorLands, NoAnchorSkipped, OnlyAnchors};
 
-use cover::covering;
+mod walk;
+
+use crate::walk::{Gaps, following};
 use effects::{Effect, Effects, FetchReason};
 use table::Table;
-use terms::{Fault, LAST_VIEW, TermLength};
+use terms::{Fault, TermLength};
 use views::{View, Viewable};
 
-/// The next term start, for a view of which it is told.
-fn following(term_length: TermLength, view: View) -> View
-    requires { view ≤ 2 ^ 62 }
-    ensures { result ≡ next (views_of term_length) view }
+/// The first anchor from `low` on that is not below `current`.
+fn landing(term_length: TermLength, low: View, current: View) -> View
+    requires { current ≤ 2 ^ 62 }
+    ensures { result ≡ landing (views_of term_length) low current }
 {
-    match term_length.next_term_start(view) {
-        Ok(next) => next,
-        Err(_) => unreachable(),
+    if low >= current {
+        low
+    } else if term_length.is_term_start(current) {
+        current
+    } else {
+        following(term_length, current)
     }
 }
 
-/// Whether more than `most` gaps stand from `low` up to `current`. It looks at no more than `most` gaps, and at
+/// Whether more than `most` gaps stand from `low` up to `current`. It looks at no more than one gap past these, and at
 /// no more covered anchors than there are nullifications.
 pub fn exceeds<R: Copy + Viewable>(
     nullifications: &Table<R>,
@@ -43,21 +48,8 @@ pub fn exceeds<R: Copy + Viewable>(
     ensures same_gaps { SameGaps (views_of term_length) }
     ensures no_gaps { NoGaps (views_of term_length) }
 {
-    if current > LAST_VIEW {
-        return Err(Fault::ViewTooHigh);
-    }
-    let mut anchor = low;
-    let mut found = 0;
-    while anchor < current {
-        if covering(nullifications, term_length, anchor).is_none() {
-            if found == most {
-                return Ok(true);
-            }
-            found += 1;
-        }
-        anchor = following(term_length, anchor);
-    }
-    Ok(false)
+    let mut gaps = Gaps::new(nullifications, term_length, low, current)?;
+    Ok(gaps.nth(most).is_some())
 }
 
 /// Writes a fetch for each gap from `low` up to `current`, and returns the first anchor that is not below
@@ -77,19 +69,12 @@ pub fn fetch_missing<R: Copy + Viewable>(
     ensures no_anchor_skipped { (floor current cursor floor' current' cursor' : ℕ) → NoAnchorSkipped (views_of term_length) floor current cursor floor' current' cursor' }
     ensures only_anchors { (floor current cursor floor' current' cursor' : ℕ) → OnlyAnchors (views_of term_length) floor current cursor floor' current' cursor' }
 {
-    if current > LAST_VIEW {
-        return Err(Fault::ViewTooHigh);
+    for gap in Gaps::new(nullifications, term_length, low, current)? {
+        effects.push(Effect::Fetch {
+            view: gap,
+            cause,
+            reason: FetchReason::MissingNullification,
+        });
     }
-    let mut anchor = low;
-    while anchor < current {
-        if covering(nullifications, term_length, anchor).is_none() {
-            effects.push(Effect::Fetch {
-                view: anchor,
-                cause,
-                reason: FetchReason::MissingNullification,
-            });
-        }
-        anchor = following(term_length, anchor);
-    }
-    Ok(anchor)
+    Ok(landing(term_length, low, current))
 }
