@@ -2,12 +2,11 @@
 #![tactic(auto)]
 
 ghost use Rattle.std.specs.Prelude.{◌≡◌, ℕ, ◌+◌, ◌^◌, ◌<◌, ◌≤◌, map, length, IfOk, MatchResult, nat_lt};
-ghost use Rattle.cover.specs.Covers.{covered};
 ghost use Rattle.effects.specs.Lists.{entries as listed, places, Added, Filled};
-ghost use Rattle.table.specs.Tables.{entries};
 ghost use Rattle.terms.specs.Terms.{views as views_of, next};
 ghost use Rattle.terms.specs.declared.fault.Fault.TheVariants.{ViewTooHigh};
-ghost use Rattle.planning.specs.Gaps.{missing, gaps, landing};
+ghost use Rattle.planning.specs.Gaps.{missing, landing};
+ghost use Rattle.planning.specs.Left.{gaps_in};
 ghost use Rattle.planning.specs.Laws.{GapsExactly, NoGrowth, SameGaps, NoGaps, CursorLands, NoAnchorSkipped, OnlyAnchors};
 
 mod walk;
@@ -42,7 +41,7 @@ pub fn exceeds<R: Copy + Viewable>(
     most: usize,
 ) -> Result<bool, Fault>
     ensures refused { MatchResult result (λ _. current ≤ 2 ^ 62) (λ f. (2 ^ 62 < current) × (f ≡ ViewTooHigh)) }
-    ensures value { IfOk result (λ b. b ≡ nat_lt most (length (gaps (views_of term_length) (λ v. covered R.Viewable.viewed (views_of term_length) v (entries nullifications.now)) low current))) }
+    ensures value { IfOk result (λ b. b ≡ nat_lt most (length (gaps_in nullifications.now term_length low current))) }
     ensures gaps_exactly { GapsExactly (views_of term_length) }
     ensures no_growth { NoGrowth (views_of term_length) }
     ensures same_gaps { SameGaps (views_of term_length) }
@@ -63,8 +62,8 @@ pub fn fetch_missing<R: Copy + Viewable>(
     effects: &mut Effects,
 ) -> Result<View, Fault>
     ensures lands { MatchResult result (λ a. (current ≤ 2 ^ 62) × (a ≡ landing (views_of term_length) low current)) (λ f. (2 ^ 62 < current) × (f ≡ ViewTooHigh) × (effects.new ≡ effects.old)) }
-    ensures added { current ≤ 2 ^ 62 → length (listed effects.old) + length (gaps (views_of term_length) (λ v. covered R.Viewable.viewed (views_of term_length) v (entries nullifications.now)) low current) ≤ places effects.old → Added (map (missing cause) (gaps (views_of term_length) (λ v. covered R.Viewable.viewed (views_of term_length) v (entries nullifications.now)) low current)) effects.old effects.new }
-    ensures filled { current ≤ 2 ^ 62 → Filled (map (missing cause) (gaps (views_of term_length) (λ v. covered R.Viewable.viewed (views_of term_length) v (entries nullifications.now)) low current)) effects.old effects.new }
+    ensures added { current ≤ 2 ^ 62 → length (listed effects.old) + length (gaps_in nullifications.now term_length low current) ≤ places effects.old → Added (map (missing cause) (gaps_in nullifications.now term_length low current)) effects.old effects.new }
+    ensures filled { current ≤ 2 ^ 62 → Filled (map (missing cause) (gaps_in nullifications.now term_length low current)) effects.old effects.new }
     ensures cursor_lands { (floor current cursor floor' current' cursor' : ℕ) → CursorLands (views_of term_length) floor current cursor floor' current' cursor' }
     ensures no_anchor_skipped { (floor current cursor floor' current' cursor' : ℕ) → NoAnchorSkipped (views_of term_length) floor current cursor floor' current' cursor' }
     ensures only_anchors { (floor current cursor floor' current' cursor' : ℕ) → OnlyAnchors (views_of term_length) floor current cursor floor' current' cursor' }
