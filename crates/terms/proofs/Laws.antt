@@ -50,6 +50,13 @@ module _ (L : ℕ) (positive : 0 < L) where
         (omega arith, omega arith)
   ]
 
+  -- each half by itself, as `grind` applies it
+  pub own_start : (v : ℕ) → start L v ≤ v
+  own_start v = (own_term v).0
+
+  pub own_end : (v : ℕ) → v ≤ end L v
+  own_end v = (own_term v).1
+
   -- a term's end lies less than L above each of its views
   pub end_below : (v : ℕ) → end L v < v + L
   end_below v = elim (cases_eq v 0) [
@@ -137,6 +144,12 @@ module _ (L : ℕ) (positive : 0 < L) where
         ],
       )
 
+  pub start_rises : (u v : ℕ) → u ≤ v → start L u ≤ start L v
+  start_rises u v h = (rising u v h).0
+
+  pub end_rises : (u v : ℕ) → u ≤ v → end L u ≤ end L v
+  end_rises u v h = (rising u v h).1
+
   pub covers_between : CoversBetween L
   covers_between u w v low high t = (to_the_end w v).1 (high, omega (arith, ((to_the_end u v).0 t).1, (rising u w low).1))
 
@@ -166,3 +179,6 @@ module _ (L : ℕ) (positive : 0 < L) where
       let same = between w v low (omega (arith, own_term w)) in
       let back = leb-true (start L v) u ((ends_past u v).1 p.1) in
       (to_the_end u w).1 (omega arith, (ends_past u w).0 (le-leb (start L w) u (omega arith)))
+
+-- what `term_start` promises of every view
+pub ruleset starts = (own_start, own_end, start_rises, end_rises, ends_past)

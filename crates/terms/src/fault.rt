@@ -12,12 +12,12 @@ pub enum Fault {
     ViewTooHigh,
 }
 
-impl Fault {
-    /// The number and the layer that a host is told.
-    pub const fn refusal(self) -> Refusal
-        ensures { result ≡ refusal_of self }
-    {
-        let number = match self {
+/// The number and the layer that a host is told.
+impl From<Fault> for Refusal {
+    ghost from_gives = { λ fault r. r ≡ refusal_of fault };
+
+    fn from(fault: Fault) -> Refusal {
+        let number = match fault {
             Fault::ZeroLength => 9,
             Fault::ViewTooHigh => 5,
         };

@@ -25,6 +25,7 @@ impl TermLength {
     }
 
     /// The first view of the term of `view`. View 0 is a term of its own.
+    #[tactic(auto, using(crate::proofs::Laws::starts), unfolding(crate::specs::Terms::start))]
     pub const fn term_start(self, view: View) -> View
         ensures value { result ≡ start (views self) view }
         ensures own_term { OwnTerm (views self) }
@@ -39,6 +40,7 @@ impl TermLength {
     }
 
     /// Whether a term begins at `view`.
+    #[tactic(auto, using(crate::proofs::Laws::start_covered, crate::proofs::Laws::starts_itself), unfolding(crate::specs::Terms::is_start))]
     pub const fn is_term_start(self, view: View) -> bool
         ensures value { result ≡ is_start (views self) view }
         ensures start_covered { StartCovered (views self) }
@@ -48,6 +50,7 @@ impl TermLength {
     }
 
     /// Whether `view` and `other` lie in one term.
+    #[tactic(auto, using(crate::proofs::Laws::same_start), unfolding(crate::specs::Terms::same_term))]
     pub const fn same_term(self, view: View, other: View) -> bool
         ensures value { result ≡ same_term (views self) view other }
         ensures same_start { SameStart (views self) }
@@ -56,6 +59,7 @@ impl TermLength {
     }
 
     /// The last view of the term of `view`, which may not be above `LAST_VIEW`.
+    #[tactic(auto, using(crate::proofs::Laws::whole_term), unfolding(crate::specs::Terms::end))]
     pub const fn term_end(self, view: View) -> Result<View, Fault>
         ensures value { MatchResult result (λ e. (view ≤ 2 ^ 62) × (e ≡ end (views self) view)) (λ f. (2 ^ 62 < view) × (f ≡ ViewTooHigh)) }
         ensures whole_term { WholeTerm (views self) }
@@ -70,6 +74,7 @@ impl TermLength {
     }
 
     /// The first view of the term after that of `view`, which may not be above `LAST_VIEW`.
+    #[tactic(auto, using(crate::proofs::Laws::end_below), unfolding(crate::specs::Terms::next))]
     pub fn next_term_start(self, view: View) -> Result<View, Fault>
         ensures value { MatchResult result (λ n. (view ≤ 2 ^ 62) × (n ≡ next (views self) view)) (λ f. (2 ^ 62 < view) × (f ≡ ViewTooHigh)) }
         ensures least_next { LeastNext (views self) }
@@ -78,6 +83,7 @@ impl TermLength {
     }
 
     /// Whether a nullification at `nullified` covers `view`: it covers its own view and the rest of that term.
+    #[tactic(auto, using(crate::proofs::Laws::to_the_end), unfolding(crate::specs::Terms::covering))]
     pub const fn covers(self, nullified: View, view: View) -> bool
         ensures value { result ≡ covering (views self) nullified view }
         ensures to_the_end { ToTheEnd (views self) }
