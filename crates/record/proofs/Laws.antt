@@ -174,7 +174,7 @@ module _ (c : Certificate) (w : Sized (proposal_in c) (proof_in c)) where
   fields : List ℕ
   fields = bytes_of 8 (proposal_in c).round.epoch ++ (bytes_of 8 (proposal_in c).round.view ++ (bytes_of 8 (proposal_in c).parent ++ ((proposal_in c).payload.0 ++ (proof_in c).0)))
 
-  pub written_read : reading (written c) ≡ Ok c
+  written_read : reading (written c) ≡ Ok c
   unfolding framed written fields
   written_read =
       let p = proposal_in c in
@@ -195,3 +195,8 @@ module _ (c : Certificate) (w : Sized (proposal_in c) (proof_in c)) where
         known = byte_kind (kind_in c);
         allowed = ap (admits (kind_in c)) back ∙ allowed_of c;
       }) ∙ ap Ok ((λ i. certificate (kind_in c) (back i) (proved i)) ∙ made_of c)
+
+-- the bytes of a certificate's parts are read back
+pub read_back : (bs : List ℕ) (c : Certificate) → bs ≡ framed (kind_in c) (proposal_in c) (proof_in c) → Sized (proposal_in c) (proof_in c) → reading bs ≡ Ok c
+unfolding written
+read_back bs c e w = ap reading e ∙ written_read c w

@@ -1,9 +1,9 @@
 -- Numbers and their bytes, both ways.
-use Rattle.std.proofs.Common.{◌≡◌, ℕ, zero, suc, ◌+◌, ◌*◌, ◌/◌, ◌%◌, ◌^◌, ◌<◌, true, eqb, List, [], ◌∷◌, ◌++◌, length, get_or, take, replicate, sym, refl, ap, ◌∙◌, append_assoc, append-nil, add-zero, div-lt_iff_lt-mul, pow-suc, zero-add, arith, w8, Fits}
+use Rattle.std.proofs.Common.{◌≡◌, ℕ, zero, suc, ◌+◌, ◌*◌, ◌/◌, ◌%◌, ◌^◌, ◌<◌, true, eqb, List, [], ◌∷◌, ◌++◌, length, get_or, replicate, sym, refl, ap, ◌∙◌, append_assoc, append-nil, add-zero, div-lt_iff_lt-mul, pow-suc, zero-add, arith, w8, Fits}
 use native.Mathlib.Nat.{div-div-eq-div-mul}
 use Rattle.std.specs.Int.Digits.{number_from_digits_after, AllBelowBase}
-use Rattle.std.proofs.lemmas.Int.Digits.{number_push, number_more}
-use Rattle.std.proofs.lemmas.List.{length_push, take_all}
+use Rattle.std.proofs.lemmas.Int.Digits.{number_push}
+use Rattle.std.proofs.lemmas.List.{length_push}
 use Rattle.std.proofs.lemmas.Bool.{eqb-true, and_parts}
 use Rattle.record.specs.Numbers.{number, bytes_of, zeros}
 
@@ -51,21 +51,6 @@ zeros_are (b ∷ bs) z =
     let e = eqb-true b 0 p.0 in
     let r = zeros_are bs p.1 in
     cc
-
--- the number in eight bytes, as a sum
-pub number_eight : (bs : List ℕ) → length bs ≡ 8 → number bs ≡ get_or bs 0 0 * 72057594037927936 + get_or bs 1 0 * 281474976710656 + get_or bs 2 0 * 1099511627776 + get_or bs 3 0 * 4294967296 + get_or bs 4 0 * 16777216 + get_or bs 5 0 * 65536 + get_or bs 6 0 * 256 + get_or bs 7 0
-number_eight bs n =
-    let step : (i : ℕ) → i < 8 → number (take (i + 1) bs) ≡ number (take i bs) * 256 + get_or bs i 0 = λ i h. number_more 256 bs i (omega arith) in
-    let whole = ap number (take_all 8 bs (omega arith)) in
-    let s0 = step 0 (omega arith) in
-    let s1 = step 1 (omega arith) in
-    let s2 = step 2 (omega arith) in
-    let s3 = step 3 (omega arith) in
-    let s4 = step 4 (omega arith) in
-    let s5 = step 5 (omega arith) in
-    let s6 = step 6 (omega arith) in
-    let s7 = step 7 (omega arith) in
-    omega arith
 
 -- the eight bytes of a number, as quotients
 pub bytes_eight : (n : ℕ) → bytes_of 8 n ≡ n / 72057594037927936 % 256 ∷ n / 281474976710656 % 256 ∷ n / 1099511627776 % 256 ∷ n / 4294967296 % 256 ∷ n / 16777216 % 256 ∷ n / 65536 % 256 ∷ n / 256 % 256 ∷ n % 256 ∷ []

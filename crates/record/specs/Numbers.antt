@@ -1,6 +1,7 @@
 -- Numbers as bytes, the highest byte first.
-use Rattle.std.specs.Prelude.{ℕ, zero, suc, ◌/◌, ◌%◌, Bool, true, ◌&&◌, List, [], ◌∷◌, ◌++◌, take, drop, ◌==◌}
+use Rattle.std.specs.Prelude.{ℕ, zero, suc, ◌/◌, ◌%◌, Bool, List, [], ◌∷◌, ◌++◌, take, drop, ◌==◌}
 use Rattle.std.specs.Int.Digits as digits
+use Rattle.std.specs.List.{list_all}
 
 -- the n bytes from the place `at` on
 abbrev pub part : ℕ → ℕ → List ℕ → List ℕ
@@ -17,5 +18,4 @@ bytes_of (suc k) n = bytes_of k (n / 256) ++ (n % 256 ∷ [])
 
 -- whether every byte is 0
 abbrev pub zeros : List ℕ → Bool
-zeros [] = true
-zeros (b ∷ bs) = b == 0 && zeros bs
+zeros = list_all (λ b. b == 0)

@@ -1,6 +1,4 @@
-ghost use Rattle.std.specs.Prelude.{◌≡◌, Decides, bytes_eq};
-ghost use Rattle.std.specs.Cmp.Rules.{comparing};
-ghost use Rattle.std.proofs.Common.{rules};
+ghost use Rattle.std.specs.Prelude.{◌≡◌};
 ghost use Rattle.record.specs.Certificates.{header_of, proposal_in};
 
 use crate::Kind;
@@ -13,40 +11,12 @@ pub struct Round {
 }
 
 /// The digest of what was proposed.
-#[derive(Clone, Copy, Debug, Eq)]
+#[derive(Clone, Copy, Debug, PartialEq, Eq)]
 pub struct Digest(pub [u8; 32]);
 
-impl PartialEq for Digest {
-    ghost eq = { λ x y. bytes_eq x.0 y.0 };
-
-    ghost laws = { Prim.search (comparing, rules) };
-
-    fn eq(&self, other: &Digest) -> bool
-        ensures value { result ≡ bytes_eq self.now.0 other.now.0 }
-        ensures decides { Decides result (self.now ≡ other.now) }
-    {
-        let Digest(bytes) = other;
-        self.0 == *bytes
-    }
-}
-
 /// What shows that a quorum stands behind a certificate.
-#[derive(Clone, Copy, Debug, Eq)]
+#[derive(Clone, Copy, Debug, PartialEq, Eq)]
 pub struct Proof(pub [u8; 32]);
-
-impl PartialEq for Proof {
-    ghost eq = { λ x y. bytes_eq x.0 y.0 };
-
-    ghost laws = { Prim.search (comparing, rules) };
-
-    fn eq(&self, other: &Proof) -> bool
-        ensures value { result ≡ bytes_eq self.now.0 other.now.0 }
-        ensures decides { Decides result (self.now ≡ other.now) }
-    {
-        let Proof(bytes) = other;
-        self.0 == *bytes
-    }
-}
 
 /// What was proposed in a round, on top of the proposal of the view `parent`.
 #[derive(Clone, Copy, Debug, PartialEq, Eq)]
@@ -90,9 +60,9 @@ impl Certificate {
         ensures { result ≡ (proposal_in self.now).parent }
     {
         match self {
-            Certificate::Notarization { proposal, .. } => proposal.parent,
+            Certificate::Notarization { proposal, .. }
+            | Certificate::Finalization { proposal, .. } => proposal.parent,
             Certificate::Nullification { .. } => 0,
-            Certificate::Finalization { proposal, .. } => proposal.parent,
         }
     }
 }

@@ -16,12 +16,12 @@ pub enum Fault {
     NullificationNotBlank,
 }
 
-impl Fault {
-    /// The number and the layer that a host is told.
-    pub const fn refusal(self) -> Refusal
-        ensures { result ≡ refusal_of self }
-    {
-        let number = match self {
+/// The number and the layer that a host is told.
+impl From<Fault> for Refusal {
+    ghost from_gives = { λ fault r. r ≡ refusal_of fault };
+
+    fn from(fault: Fault) -> Refusal {
+        let number = match fault {
             Fault::WrongLength => 1,
             Fault::UnknownKind => 2,
             Fault::ReservedNotZero => 3,

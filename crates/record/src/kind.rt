@@ -4,19 +4,21 @@ ghost use Rattle.record.specs.Kinds.{kind_of, byte_of, name_of};
 use crate::Fault;
 use std::fmt;
 
-/// What a certificate says of its view.
+/// What a certificate says of its view. Its number is the first byte of a record.
 #[derive(Clone, Copy, Debug, PartialEq, Eq)]
 pub enum Kind {
-    Notarization,
-    Nullification,
-    Finalization,
+    Notarization = 1,
+    Nullification = 2,
+    Finalization = 3,
 }
 
-impl Kind {
-    /// The kind that a record's first byte names.
-    pub fn read(byte: u8) -> Result<Kind, Fault>
-        ensures { result ≡ kind_of byte }
-    {
+/// The kind that a record's first byte names.
+impl TryFrom<u8> for Kind {
+    type Error = Fault;
+
+    ghost try_from_gives = { λ byte kind. kind ≡ kind_of byte };
+
+    fn try_from(byte: u8) -> Result<Kind, Fault> {
         match byte {
             1 => Ok(Kind::Notarization),
             2 => Ok(Kind::Nullification),
@@ -24,17 +26,14 @@ impl Kind {
             _ => Err(Fault::UnknownKind),
         }
     }
+}
 
-    /// The first byte of a record of this kind.
-    pub fn byte(self) -> u8
-        ensures value { result ≡ byte_of self }
-        ensures reads_back { kind_of result ≡ Ok self }
-    {
-        match self {
-            Kind::Notarization => 1,
-            Kind::Nullification => 2,
-            Kind::Finalization => 3,
-        }
+/// The first byte of a record of this kind.
+impl From<Kind> for u8 {
+    ghost from_gives = { λ kind byte. (byte ≡ byte_of kind) × (kind_of byte ≡ Ok kind) };
+
+    fn from(kind: Kind) -> u8 {
+        kind as u8
     }
 }
 

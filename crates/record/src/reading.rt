@@ -6,38 +6,27 @@ ghost use Rattle.record.specs.Numbers.{part, number as number_in, zeros as all_z
 
 use crate::{Certificate, Digest, Fault, Kind, LENGTH, Proof, Proposal, Round};
 
+/// A copy of `N` bytes.
+fn array<const N: usize>(bytes: &[u8]) -> [u8; N]
+    requires { length bytes.now ≡ N }
+    ensures { result ≡ bytes.now }
+{
+    bytes.try_into().unwrap()
+}
+
 /// The number in eight bytes, the highest first.
 fn number(bytes: &[u8]) -> u64
     requires { length bytes.now ≡ 8 }
     ensures { result ≡ number_in bytes.now }
 {
-    match bytes.first_chunk::<8>() {
-        Some(eight) => u64::from_be_bytes(*eight),
-        None => unreachable(),
-    }
-}
-
-/// A copy of 32 bytes.
-fn block(bytes: &[u8]) -> [u8; 32]
-    requires { length bytes.now ≡ 32 }
-    ensures { result ≡ bytes.now }
-{
-    match bytes.first_chunk::<32>() {
-        Some(block) => *block,
-        None => unreachable(),
-    }
+    u64::from_be_bytes(array(bytes))
 }
 
 /// Whether every byte is 0.
 fn zeros(bytes: &[u8]) -> bool
     ensures { result ≡ all_zero bytes.now }
 {
-    for b in bytes {
-        if *b != 0 {
-            return false;
-        }
-    }
-    true
+    bytes.iter().all(|b| *b == 0)
 }
 
 /// The fields in the bytes after the first eight.
@@ -51,9 +40,9 @@ fn fields(rest: &[u8]) -> (Proposal, Proof)
     let proposal = Proposal {
         round: Round { epoch, view },
         parent: number(&rest[16..24]),
-        payload: Digest(block(&rest[24..56])),
+        payload: Digest(array(&rest[24..56])),
     };
-    (proposal, Proof(block(&rest[56..88])))
+    (proposal, Proof(array(&rest[56..88])))
 }
 
 /// The certificate of a kind in the bytes after the first eight.
@@ -82,7 +71,7 @@ fn body(kind: Kind, rest: &[u8]) -> Result<Certificate, Fault>
 fn head_fault(kind: u8) -> Fault
     ensures { result ≡ head_fault (kind_of kind) }
 {
-    match Kind::read(kind) {
+    match Kind::try_from(kind) {
         Ok(_) => Fault::ReservedNotZero,
         Err(fault) => fault,
     }
@@ -100,6 +89,7 @@ fn opened(bytes: &[u8]) -> Option<(u8, &[u8])>
 }
 
 /// The certificate in a record's bytes, or the first test that they fail.
+#[tactic(auto, unfolding(crate::specs::Format::reading))]
 fn parse(bytes: &[u8]) -> Result<Certificate, Fault>
     ensures { result ≡ reading bytes.now }
 {
@@ -109,7 +99,7 @@ fn parse(bytes: &[u8]) -> Result<Certificate, Fault>
     let Some((kind, rest)) = opened(bytes) else {
         return Err(head_fault(bytes[0]));
     };
-    body(Kind::read(kind)?, rest)
+    body(Kind::try_from(kind)?, rest)
 }
 
 impl Certificate {

@@ -15,6 +15,7 @@ fn put(bytes: &mut [u8], at: usize, field: &[u8])
 }
 
 /// Copies the eight bytes of `number` into `bytes` from the place `at` on.
+#[tactic(auto, using(crate::proofs::Numbers::bytes_eight, crate::proofs::Numbers::length_bytes))]
 fn put_number(bytes: &mut [u8], at: usize, number: u64)
     requires { at + 8 ≤ length bytes.old }
     ensures bytes { bytes.new ≡ take at bytes.old ++ (bytes_of 8 number ++ drop (at + 8) bytes.old) }
@@ -29,7 +30,7 @@ pub fn frame(kind: Kind, proposal: &Proposal, proof: &Proof) -> [u8; LENGTH]
     ensures sized { Sized proposal.now proof.now }
 {
     let mut bytes = [0; LENGTH];
-    bytes[0] = kind.byte();
+    bytes[0] = u8::from(kind);
     put_number(&mut bytes, 8, proposal.round.epoch);
     put_number(&mut bytes, 16, proposal.round.view);
     put_number(&mut bytes, 24, proposal.parent);
@@ -40,6 +41,7 @@ pub fn frame(kind: Kind, proposal: &Proposal, proof: &Proof) -> [u8; LENGTH]
 
 impl Certificate {
     /// The record of a certificate.
+    #[tactic(auto, unfolding(crate::specs::Certificates::written))]
     pub fn write(&self) -> [u8; LENGTH]
         ensures value { result ≡ written self.now }
         ensures reads_back { reading result ≡ Ok self.now }

@@ -10,7 +10,7 @@ returns c =
     let payload : length c.args.proposal.now.payload.0 ≡ 32 = search rules in
     let proof : length c.args.proof.now.0 ≡ 32 = search rules in
     record {
-      value = assembled _ _ _ _ _ _ _ _ _ _ _ _ c.byte.ensures.value (length_bytes 8 _) (length_bytes 8 _) (length_bytes 8 _) payload proof c.put_number.ensures.bytes c.put_number-2.ensures.bytes c.put_number-3.ensures.bytes c.put.ensures c.put-2.ensures;
+      value = assembled _ _ _ _ _ _ _ _ _ _ _ _ c.from.ensures.0 (length_bytes 8 _) (length_bytes 8 _) (length_bytes 8 _) payload proof c.put_number.ensures.bytes c.put_number-2.ensures.bytes c.put_number-3.ensures.bytes c.put.ensures c.put-2.ensures;
       sized = record {
         epoch = c.put_number.ensures.fits;
         view = c.put_number-2.ensures.fits;
