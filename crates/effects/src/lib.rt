@@ -2,7 +2,6 @@
 #![tactic(auto)]
 
 pub mod effect;
-mod list;
 pub mod listed;
 
 pub use effect::{Effect, FetchReason, Kind};

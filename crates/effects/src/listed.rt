@@ -1,16 +1,18 @@
 ghost use Rattle.std.specs.Prelude.{◌≡◌, ◌<◌, ◌≤◌, [], ◌∷◌, length, MatchOption, ◌==◌, slice_index_or};
-ghost use Rattle.effects.specs.Lists.{entries, places, Added, NothingAdded, AddedBoth, Filled, NothingFilled, FilledBoth, AllFilled, ListedFrom};
 
-use crate::{Effect, list};
+use crate::Effect;
 
 /// The effects of a call, one after the other, in a list that the host lends.
 #[derive(Drop)]
 pub struct Effects<'a> {
     list: &'a mut [Effect],
     len: usize,
+    ghost fits: { len ≤ length list.now },
 }
 
 impl<'a> Effects<'a> {
+    ghost use Rattle.effects.specs.Lists.{entries, places, Added, NothingAdded, AddedBoth, Filled, NothingFilled, FilledBoth, AllFilled, ListedFrom};
+
     /// The empty list.
     pub fn new(list: &'a mut [Effect]) -> Effects<'a>
         ensures entries { entries result ≡ [] }
@@ -19,23 +21,26 @@ impl<'a> Effects<'a> {
         Effects { list, len: 0 }
     }
 
+    /// The effects that stand in it.
+    fn as_slice(&self) -> &[Effect]
+        ensures { result.now ≡ entries self.now }
+    {
+        &self.list[..self.len]
+    }
+
     /// How many effects stand in it.
     pub fn len(&self) -> usize
         ensures value { result ≡ length (entries self.now) }
         ensures bound { result ≤ places self.now }
     {
-        if self.len < self.list.len() {
-            self.len
-        } else {
-            self.list.len()
-        }
+        self.as_slice().len()
     }
 
     /// Whether none stands in it.
     pub fn is_empty(&self) -> bool
         ensures { result ≡ (length (entries self.now) == 0) }
     {
-        self.len() == 0
+        self.as_slice().is_empty()
     }
 
     /// How many the host lent room for.
@@ -49,11 +54,7 @@ impl<'a> Effects<'a> {
     pub fn nth(&self, i: usize) -> Option<Effect>
         ensures { MatchOption result (length (entries self.now) ≤ i) (λ x. (i < length (entries self.now)) × (x ≡ slice_index_or (entries self.now) i x)) }
     {
-        if i < self.len() {
-            Some(self.list[i])
-        } else {
-            None
-        }
+        self.as_slice().get(i).copied()
     }
 
     /// Takes all effects off the list.
@@ -76,11 +77,10 @@ impl<'a> Effects<'a> {
         ensures filled_both { FilledBoth }
         ensures all_filled { AllFilled }
     {
-        let len = self.len();
-        if len == self.list.len() {
+        if self.len == self.list.len() {
             return;
         }
-        list::write(self.list, len, effect);
-        self.len = len + 1;
+        self.list[self.len] = effect;
+        self.len += 1;
     }
 }
