@@ -1,8 +1,8 @@
 //! One place for one value, in memory that a host lends.
 #![tactic(auto)]
 
-ghost use Rattle.std.specs.Prelude.{◌≡◌, ◌<◌, length, drop, if◌then◌else◌, Some, None, nat_lt};
-ghost use Rattle.slot.specs.Slots.{first_of, held, places};
+ghost use Rattle.std.specs.Prelude.{◌≡◌, length, drop, if◌then◌else◌, Some, None, nat_lt};
+ghost use Rattle.slot.specs.Slots.{held, places};
 
 /// A place that holds one value or none. A value in a place that holds none is free.
 #[derive(Drop)]
@@ -41,17 +41,8 @@ impl<'a, T: Copy> Slot<'a, T> {
         if self.place.len() == 0 {
             return false;
         }
-        write(self.place, value);
+        self.place[0] = value;
         self.full = true;
         true
     }
-}
-
-/// Writes a value into the first place.
-fn write<T: Copy>(place: &mut [T], value: T)
-    requires { 0 < length place.old }
-    ensures first { first_of place.new ≡ Some value }
-    ensures rest { drop 1 place.new ≡ drop 1 place.old }
-{
-    place[0] = value;
 }
