@@ -3,7 +3,7 @@ use Rattle.std.proofs.Common.{◌≡◌, ℕ, ◌+◌, ◌≤◌, true, eqb, Lis
 use Rattle.std.proofs.lemmas.List.{drop-drop, get_or-drop, get_or_past, get_or-take, length-append, length-drop, length-take, length-take-le}
 use Rattle.std.proofs.lemmas.Bool.{cond_both, cond-true, cases_lt, eq-eqb, eqb-true, and_parts, and_from, false≢true}
 use Rattle.record.specs.Certificates.{kind_in, proposal_in, proof_in, Sized, framed, written}
-use Rattle.record.specs.Format.{proposal_at, proof_at, admits, certificate, head_read, reading, Formed, Placed}
+use Rattle.record.specs.Format.{proposal_at, proof_at, admits, body_read, certificate, head_read, reading, Formed, Placed}
 use Rattle.record.specs.Kinds.{kind_of, byte_of}
 use Rattle.record.specs.Numbers.{part, number, bytes_of, zeros}
 use Rattle.record.specs.declared.certificate.Certificate.{Certificate}
@@ -111,11 +111,15 @@ module _ (bs : List ℕ) where
       go l z (Err f) e = tt
       go l z (Ok k) e = cond_both (admits k (proposal_at (drop 8 bs))) _ _ (λ (r : Result Certificate Fault). IfOk r P) (λ a. all k (record { long = l; reserved = z; known = e; allowed = a })) (λ _. tt)
 
-  -- and bytes that pass them are read
-  passed : (k : Kind) → Passes k → reading bs ≡ Ok (certificate k (proposal_at (drop 8 bs)) (proof_at (drop 8 bs)))
+  -- bytes that begin as a record are read by what follows
+  pub opened : (k : Kind) → length bs ≡ 96 → zeros (part 1 7 bs) ≡ true → kind_of (get_or bs 0 0) ≡ Ok k → reading bs ≡ body_read k (drop 8 bs)
   unfolding reading
-  passed k p =
-      cond-true (eqb (length bs) 96) _ _ (eq-eqb (length bs) 96 p.long) ∙ cond-true (zeros (part 1 7 bs)) _ _ p.reserved ∙ ap (λ r. head_read r (drop 8 bs)) p.known ∙ cond-true (admits k (proposal_at (drop 8 bs))) _ _ p.allowed
+  opened k long reserved known =
+      cond-true (eqb (length bs) 96) _ _ (eq-eqb (length bs) 96 long) ∙ cond-true (zeros (part 1 7 bs)) _ _ reserved ∙ ap (λ r. head_read r (drop 8 bs)) known
+
+  -- and bytes that pass the tests are read
+  passed : (k : Kind) → Passes k → reading bs ≡ Ok (certificate k (proposal_at (drop 8 bs)) (proof_at (drop 8 bs)))
+  passed k p = opened k p.long p.reserved p.known ∙ cond-true (admits k (proposal_at (drop 8 bs))) _ _ p.allowed
 
   payload_long : length bs ≡ 96 → length (proposal_at (drop 8 bs)).payload.0 ≡ 32
   payload_long l = length-take-le 32 (drop 24 (drop 8 bs)) (omega (arith, length-drop 24 (drop 8 bs), length-drop 8 bs))

@@ -1,8 +1,7 @@
-ghost use Rattle.std.specs.Prelude.{◌≡◌, true, false, length, drop, is_ok, IfOk, Decides, MatchOption, slice_index};
+ghost use Rattle.std.specs.Prelude.{◌≡◌, length, is_ok, IfOk, Decides};
 ghost use Rattle.record.specs.Certificates.{written};
-ghost use Rattle.record.specs.Format.{proposal_at, proof_at, body_read, head_fault, reading, Formed, Placed};
-ghost use Rattle.record.specs.Kinds.{kind_of};
-ghost use Rattle.record.specs.Numbers.{part, number as number_in, zeros as all_zero};
+ghost use Rattle.record.specs.Format.{proposal_at, proof_at, body_read, reading, Formed, Placed};
+ghost use Rattle.record.specs.Numbers.{number as number_in, zeros as all_zero};
 
 use crate::{Certificate, Digest, Fault, Kind, LENGTH, Proof, Proposal, Round};
 
@@ -67,27 +66,6 @@ fn body(kind: Kind, rest: &[u8]) -> Result<Certificate, Fault>
     }
 }
 
-/// Why bytes that do not begin with a kind and seven zeros are no record.
-fn head_fault(kind: u8) -> Fault
-    ensures { result ≡ head_fault (kind_of kind) }
-{
-    match Kind::try_from(kind) {
-        Ok(_) => Fault::ReservedNotZero,
-        Err(fault) => fault,
-    }
-}
-
-/// The first byte and those after the seven zeros that follow it.
-fn opened(bytes: &[u8]) -> Option<(u8, &[u8])>
-    requires { length bytes.now ≡ 96 }
-    ensures { MatchOption result (all_zero (part 1 7 bytes.now) ≡ false) (λ p. (all_zero (part 1 7 bytes.now) ≡ true) × (p.0 ≡ slice_index bytes.now 0) × (p.1.now ≡ drop 8 bytes.now)) }
-{
-    let [kind, 0, 0, 0, 0, 0, 0, 0, rest @ ..] = bytes else {
-        return None;
-    };
-    Some((*kind, rest))
-}
-
 /// The certificate in a record's bytes, or the first test that they fail.
 #[tactic(auto, unfolding(crate::specs::Format::reading))]
 fn parse(bytes: &[u8]) -> Result<Certificate, Fault>
@@ -96,10 +74,11 @@ fn parse(bytes: &[u8]) -> Result<Certificate, Fault>
     if bytes.len() != LENGTH {
         return Err(Fault::WrongLength);
     }
-    let Some((kind, rest)) = opened(bytes) else {
-        return Err(head_fault(bytes[0]));
+    let kind = Kind::try_from(bytes[0])?;
+    let [_, 0, 0, 0, 0, 0, 0, 0, rest @ ..] = bytes else {
+        return Err(Fault::ReservedNotZero);
     };
-    body(Kind::try_from(kind)?, rest)
+    body(kind, rest)
 }
 
 impl Certificate {
