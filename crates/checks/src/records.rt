@@ -1,4 +1,5 @@
 use record::{Certificate, Digest, Fault, LENGTH, Proof, Proposal, Round};
+use refusals::Refusal;
 use std::test::Fail;
 
 /// A notarization whose fields all differ.
@@ -20,7 +21,7 @@ fn notarization() -> Certificate {
 fn refusal_number(bytes: &[u8]) -> u8 {
     match Certificate::read(bytes) {
         Ok(_) => 0,
-        Err(fault) => fault.refusal().number,
+        Err(fault) => Refusal::from(fault).number,
     }
 }
 

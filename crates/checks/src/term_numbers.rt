@@ -1,3 +1,4 @@
+use refusals::Refusal;
 use std::test::Fail;
 use terms::{Fault, TermLength};
 
@@ -61,7 +62,7 @@ fn refused(rt: HostRuntime) {
 fn refusal_number(length: u32, view: u64) -> u8 {
     match numbers(length, view) {
         Ok(_) => 0,
-        Err(fault) => fault.refusal().number,
+        Err(fault) => Refusal::from(fault).number,
     }
 }
 

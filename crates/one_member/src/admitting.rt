@@ -44,10 +44,7 @@ fn quorum_mask(seats: u64, quorum: u64) -> Option<u64>
 pub fn admit(setup: Setup) -> Result<Admitted, Refusal>
     ensures { MatchResult result (λ a. (0 < setup.term_length) × (views_of a.term_length ≡ setup.term_length) × (a.epoch ≡ setup.epoch) × (allowed setup.seats setup.quorum ≡ true) × (a.seats + 1 ≡ 2 ^ setup.quorum)) (λ f. ((setup.term_length ≡ 0) × (f ≡ refusal_of ZeroLength)) ⊎ ((0 < setup.term_length) × (allowed setup.seats setup.quorum ≡ false) × (f ≡ no_quorum))) }
 {
-    let term_length = match TermLength::new(setup.term_length) {
-        Ok(term_length) => term_length,
-        Err(fault) => return Err(fault.refusal()),
-    };
+    let term_length = TermLength::new(setup.term_length)?;
     match quorum_mask(setup.seats, setup.quorum) {
         Some(seats) => Ok(Admitted {
             term_length,

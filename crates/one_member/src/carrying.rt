@@ -29,7 +29,7 @@ fn done(res: Result<(), Fault>) -> Answered
 {
     match res {
         Ok(()) => Answered::Done,
-        Err(fault) => Answered::Refused(fault.refusal()),
+        Err(fault) => Answered::Refused(Refusal::from(fault)),
     }
 }
 

@@ -39,14 +39,14 @@ impl From<record::Fault> for Fault {
     }
 }
 
-impl Fault {
-    /// The number and the layer that a host is told.
-    pub const fn refusal(self) -> Refusal
-        ensures { result ≡ refusal_of self }
-    {
-        let number = match self {
-            Fault::Terms(fault) => return fault.refusal(),
-            Fault::Record(fault) => return fault.refusal(),
+/// The number and the layer that a host is told.
+impl From<Fault> for Refusal {
+    ghost from_gives = { λ fault r. r ≡ refusal_of fault };
+
+    fn from(fault: Fault) -> Refusal {
+        let number = match fault {
+            Fault::Terms(fault) => return Refusal::from(fault),
+            Fault::Record(fault) => return Refusal::from(fault),
             Fault::TooFewPlaces => 13,
             Fault::NotANotarization => 8,
             Fault::ViewTooHigh => 5,
