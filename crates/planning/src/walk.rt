@@ -23,10 +23,7 @@ pub(crate) fn following(term_length: TermLength, view: View) -> View
     requires { view ≤ 2 ^ 62 }
     ensures { result ≡ next (views_of term_length) view }
 {
-    match term_length.next_term_start(view) {
-        Ok(next) => next,
-        Err(_) => unreachable(),
-    }
+    term_length.next_term_start(view).unwrap()
 }
 
 impl<'t, 'a, R: Copy + Viewable> Gaps<'t, 'a, R> {

@@ -31,9 +31,7 @@ impl<'a, R: Copy + Viewable> State<'a, R> {
         requires { view ≤ 2 ^ 62 }
         ensures { result ≡ (row_due (term self.now) Nulled view (values self.now) && nat_le 128 (rows_held (term self.now) Nulled (values self.now))) }
     {
-        let Ok(end) = self.store.term_length.term_end(view) else {
-            unreachable()
-        };
+        let end = self.store.term_length.term_end(view).unwrap();
         end > self.store.last_finalized()
             && !self.store.nullifications.contains(view)
             && self.store.nullifications.len() >= ROWS
@@ -81,16 +79,14 @@ impl<'a, R: Copy + Viewable> State<'a, R> {
         requires { current ≤ 2 ^ 62 }
         ensures { result ≡ nat_lt 128 (length (gaps (term self.now) (is_covered (term self.now) (values self.now)) low current)) }
     {
-        match exceeds(
+        exceeds(
             &self.store.nullifications,
             self.store.term_length,
             low,
             current,
             GAPS,
-        ) {
-            Ok(over) => over,
-            Err(_) => unreachable(),
-        }
+        )
+        .unwrap()
     }
 
     /// Whether more gaps would stand after evidence than may.

@@ -93,8 +93,5 @@ impl<'a, R: Copy + Viewable> State<'a, R> {
 fn nth_view<X: Copy + Viewable>(table: &Table<X>, i: usize) -> Option<View>
     ensures { MatchOption result (length (map X.Viewable.viewed (entries table.now)) ≤ i) (λ v. (i < length (map X.Viewable.viewed (entries table.now))) × (v ≡ slice_index_or (map X.Viewable.viewed (entries table.now)) i v)) }
 {
-    match table.nth(i) {
-        Some(row) => Some(row.view()),
-        None => None,
-    }
+    table.nth(i).map(|row| row.view())
 }
