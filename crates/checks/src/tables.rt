@@ -6,10 +6,8 @@ use terms::TermLength;
 /// The views of a table, four at most; 0 where it has no row.
 fn views(table: &Table<Mark>) -> [u64; 4] {
     let mut views = [0; 4];
-    for i in 0..4 {
-        if let Some(mark) = table.nth(i) {
-            views[i] = mark.view;
-        }
+    for (view, mark) in views.iter_mut().zip(table.as_slice()) {
+        *view = mark.view;
     }
     views
 }
