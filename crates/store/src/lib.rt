@@ -2,8 +2,10 @@
 #![tactic(auto)]
 
 mod calls;
+pub mod held;
 mod reads;
 mod steps;
 pub mod store;
 
+pub use held::Held;
 pub use store::{Memory, Store};
