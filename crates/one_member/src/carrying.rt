@@ -24,12 +24,15 @@ pub enum Answered {
     Told,
 }
 
-fn done(res: Result<(), Fault>) -> Answered
-    ensures { result ≡ done_of res }
-{
-    match res {
-        Ok(()) => Answered::Done,
-        Err(fault) => Answered::Refused(Refusal::from(fault)),
+/// What a call that records something answers.
+impl From<Result<(), Fault>> for Answered {
+    ghost from_gives = { λ res a. a ≡ done_of res };
+
+    fn from(res: Result<(), Fault>) -> Answered {
+        match res {
+            Ok(()) => Answered::Done,
+            Err(fault) => Answered::Refused(Refusal::from(fault)),
+        }
     }
 }
 
@@ -59,11 +62,11 @@ pub fn carry_out(
     ensures { Carried (meant order.now) result state.old state.new effects.old effects.new place.old place.new }
 {
     match order {
-        Order::Updated(bytes) => done(state.updated(bytes.as_slice(), effects)),
+        Order::Updated(bytes) => Answered::from(state.updated(bytes.as_slice(), effects)),
         Order::Certified { success, bytes } => {
-            done(state.certified(bytes.as_slice(), *success, effects))
+            Answered::from(state.certified(bytes.as_slice(), *success, effects))
         }
-        Order::Replayed => done(state.replayed(effects)),
+        Order::Replayed => Answered::from(state.replayed(effects)),
         Order::Settled { view, kind } => yes_no(state.settled(*view, *kind)),
         Order::Produce(view) => found(state.produce(*view, place)),
         Order::State => Answered::Told,
