@@ -1,4 +1,4 @@
 pub mod Binds
-pub mod Cuts
 pub mod Numerals
 pub mod Pairs
+pub mod Runs

@@ -43,7 +43,7 @@ impl Class for Decimal {
     ghost member = { λ _. decimal_digit };
 
     fn has(&self, byte: u8) -> bool {
-        b'0' <= byte && byte <= b'9'
+        matches!(byte, b'0'..=b'9')
     }
 }
 
@@ -55,7 +55,7 @@ impl Class for Hex {
     ghost member = { λ _. hex_digit };
 
     fn has(&self, byte: u8) -> bool {
-        (b'0' <= byte && byte <= b'9') || (b'a' <= byte && byte <= b'f')
+        matches!(byte, b'0'..=b'9' | b'a'..=b'f')
     }
 }
 
@@ -64,17 +64,15 @@ pub fn run<C: Class>(class: &C, bytes: &[u8]) -> usize
     ensures value { result ≡ prefix_len (C.Class.member class.now) bytes.now }
     ensures bound { result ≤ length bytes.now }
 {
-    for (n, byte) in bytes.iter().enumerate() {
-        if !class.has(*byte) {
-            return n;
-        }
-    }
-    bytes.len()
+    bytes
+        .iter()
+        .position(|byte| !class.has(*byte))
+        .unwrap_or(bytes.len())
 }
 
 /// Whether every byte is in the class.
 pub fn all<C: Class>(class: &C, bytes: &[u8]) -> bool
     ensures { result ≡ every (C.Class.member class.now) bytes.now }
 {
-    run(class, bytes) == bytes.len()
+    bytes.iter().all(|byte| class.has(*byte))
 }

@@ -21,16 +21,15 @@ fn nibble(c: u8) -> u8
 fn decode(heap: Global, word: &[u8]) -> Result<Vec<u8>, AllocError>
     ensures { IfOk result (λ v. v.items ≡ decoded word.now) }
 {
-    let mut bytes = Vec::new(heap);
-    let mut rest = word;
-    while let [high, low, after @ ..] = rest {
-        bytes.push(nibble(*high) * 16 + nibble(*low))?;
-        rest = after;
-    }
-    Ok(bytes)
+    let (pairs, _) = word.as_chunks::<2>();
+    pairs
+        .iter()
+        .map(|[high, low]| nibble(*high) * 16 + nibble(*low))
+        .collect(heap)
 }
 
 /// The bytes that a word writes in hex, where a lone hyphen writes none.
+#[tactic(auto, unfolding(crate::specs::Hex::hex_of))]
 pub fn hex(heap: Global, word: &[u8]) -> Result<Vec<u8>, Problem>
     ensures { Told result vec_items (hex_of word.now) }
 {

@@ -5,6 +5,7 @@ use crate::Problem;
 use crate::class::{Decimal, all};
 
 /// The number that digits write, if it fits 64 bits.
+#[tactic(auto, using(crate::proofs::Numerals::read_on_more, crate::proofs::Numerals::read_on_grows))]
 fn value(word: &[u8]) -> Option<u64>
     ensures { result ≡ (if nat_lt (read_on 0 word.now) (2 ^ 64) then Some (read_on 0 word.now) else None) }
 {
@@ -21,10 +22,14 @@ fn value(word: &[u8]) -> Option<u64>
 fn plain(word: &[u8]) -> bool
     ensures { result ≡ plainly word.now }
 {
-    !word.is_empty() && all(&Decimal, word) && !(word.len() > 1 && word[0] == b'0')
+    match word {
+        [] | [b'0', _, ..] => false,
+        _ => all(&Decimal, word),
+    }
 }
 
 /// The number that a word writes in decimal, without sign or leading zeros.
+#[tactic(auto, unfolding(crate::specs::Numerals::decimal_of))]
 pub fn decimal(word: &[u8]) -> Result<u64, Problem>
     ensures { result ≡ decimal_of word.now }
 {
@@ -35,6 +40,7 @@ pub fn decimal(word: &[u8]) -> Result<u64, Problem>
 }
 
 /// The number that a word of a line writes.
+#[tactic(auto, unfolding(crate::specs::Numerals::number_of))]
 pub fn number(word: &[u8]) -> Result<u64, Problem>
     ensures { result ≡ number_of word.now }
 {
@@ -49,8 +55,5 @@ pub fn short_number(word: &[u8]) -> Result<u32, Problem>
     ensures { result ≡ short_of word.now }
 {
     let n = number(word)?;
-    if n > 0xffff_ffff {
-        return Err(Problem::OutOfRange);
-    }
-    Ok(n as u32)
+    u32::try_from(n).map_err(|_| Problem::OutOfRange)
 }

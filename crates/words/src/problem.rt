@@ -3,6 +3,7 @@ ghost use Rattle.words.specs.Problems.{text_of};
 ghost use Rattle.words.specs.declared.problem.Problem.TheVariants.{OutOfMemory};
 
 use std::alloc::AllocError;
+use std::error::Error;
 use std::fmt;
 
 /// Why a line is no command.
@@ -51,6 +52,8 @@ impl fmt::Display for Problem {
         f.write_str(self.as_str())
     }
 }
+
+impl Error for Problem {}
 
 impl From<AllocError> for Problem {
     ghost from_gives = { λ _ p. p ≡ OutOfMemory };

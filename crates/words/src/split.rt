@@ -30,11 +30,11 @@ pub fn split_line(text: &[u8]) -> (&[u8], &[u8])
 pub fn uncommented(line: &[u8]) -> &[u8]
     ensures { result.now ≡ take (until 35 line.now) line.now }
 {
-    let (text, _) = line.split_at(up_to(line, b'#'));
-    text
+    &line[..up_to(line, b'#')]
 }
 
 /// The first word and what follows it. Where there is no word, both are empty.
+#[tactic(auto, unfolding(crate::specs::Lines::first_word, crate::specs::Lines::after_word))]
 fn split_word(text: &[u8]) -> (&[u8], &[u8])
     ensures word { result.0.now ≡ first_word text.now }
     ensures rest { result.1.now ≡ after_word text.now }
@@ -44,13 +44,13 @@ fn split_word(text: &[u8]) -> (&[u8], &[u8])
 }
 
 /// What follows the first `n` words.
+#[tactic(auto, unfolding(crate::specs::Lines::after_words))]
 pub fn after(text: &[u8], n: usize) -> &[u8]
     ensures { result.now ≡ after_words n text.now }
 {
     let mut rest = text;
     for _ in 0..n {
-        let (_, next) = split_word(rest);
-        rest = next;
+        (_, rest) = split_word(rest);
     }
     rest
 }
@@ -64,6 +64,7 @@ pub fn word(text: &[u8], n: usize) -> &[u8]
 }
 
 /// Tests that no word is left.
+#[tactic(auto, unfolding(crate::specs::Lines::ended))]
 pub fn end(text: &[u8]) -> Result<(), Problem>
     ensures { result ≡ ended text.now }
 {

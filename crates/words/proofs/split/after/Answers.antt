@@ -8,9 +8,3 @@ loop-preserved c =
     let left = c.args.n - (c.loop.counter + 1) in
     let one : suc left ≡ c.args.n - c.loop.counter = omega arith in
     ap (after_words left) c.split_word.ensures.rest ∙ ap (λ k. after_words k c.loop.rest.now) one ∙ c.loop.invariant
-
-pub returns : goal.returns
-unfolding after_words
-returns c =
-    let none : 0 ≡ c.args.n - c.loop.counter = omega arith in
-    ap (λ k. after_words k c.loop.rest.now) none ∙ c.loop.invariant
