@@ -16,27 +16,21 @@ pub struct Options {
 pub fn kind_named(word: &[u8]) -> Result<Kind, Problem>
     ensures { result ≡ kind_named word.now }
 {
-    if word.is_empty() {
-        Err(Problem::MissingWord)
-    } else if is(word, "notarization") {
-        Ok(Kind::Notarization)
-    } else if is(word, "nullification") {
-        Ok(Kind::Nullification)
-    } else if is(word, "finalization") {
-        Ok(Kind::Finalization)
-    } else {
-        Err(Problem::NotARecord)
+    match word {
+        b"" => Err(Problem::MissingWord),
+        b"notarization" => Ok(Kind::Notarization),
+        b"nullification" => Ok(Kind::Nullification),
+        b"finalization" => Ok(Kind::Finalization),
+        _ => Err(Problem::NotARecord),
     }
 }
 
 /// The number after `name`, if the word begins with it.
+#[tactic(auto, unfolding(crate::specs::Options::option_of, words::specs::Problems::bind))]
 pub fn option(word: &[u8], name: &str) -> Result<Option<u64>, Problem>
     ensures { result ≡ option_of name.now word.now }
 {
-    let Some(digits) = strip(word, name) else {
-        return Ok(None);
-    };
-    Ok(Some(decimal(digits)?))
+    strip(word, name).map(decimal).transpose()
 }
 
 /// What follows an option's word, if it was there.
@@ -50,6 +44,7 @@ fn past_option<'a>(text: &'a [u8], option: Option<u64>) -> &'a [u8]
 }
 
 /// The options at the front of a text: in this order, each at most once, and nothing behind them.
+#[tactic(auto, unfolding(crate::specs::Options::options_of, words::specs::Problems::bind))]
 pub fn read_options(text: &[u8]) -> Result<Options, Problem>
     ensures { result ≡ options_of text.now }
 {

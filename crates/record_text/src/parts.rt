@@ -15,6 +15,7 @@ pub struct Defaults {
 }
 
 /// The proof of a mask of seats: its eight bytes, and zeros.
+#[tactic(auto, using(record::proofs::Numbers::bytes_eight), unfolding(crate::specs::Parts::seats_proof))]
 pub fn seats_proof(mask: u64) -> Proof
     ensures { result ≡ seats_proof mask }
 {
@@ -38,6 +39,7 @@ pub fn frame_by(kind: Kind, view: u64, options: Options, defaults: Defaults) -> 
 }
 
 /// The bytes of a record that a text writes by its parts.
+#[tactic(auto, unfolding(crate::specs::Parts::parts_of, words::specs::Problems::bind))]
 pub fn parts(text: &[u8], defaults: Defaults) -> Result<[u8; LENGTH], Problem>
     ensures { result ≡ parts_of defaults text.now }
 {

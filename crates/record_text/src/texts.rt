@@ -7,6 +7,7 @@ use std::alloc::Global;
 use words::{Problem, after, end, hex, is, word};
 
 /// The bytes of a record that a text writes in hex.
+#[tactic(auto, unfolding(crate::specs::Parts::hex_record, words::specs::Problems::bind))]
 fn hex_record(heap: Global, text: &[u8]) -> Result<Vec<u8>, Problem>
     ensures { Told result vec_items (hex_record text.now) }
 {
@@ -16,6 +17,7 @@ fn hex_record(heap: Global, text: &[u8]) -> Result<Vec<u8>, Problem>
 }
 
 /// The bytes of the record that a text writes. They need not be those of a record that can be read.
+#[tactic(auto, unfolding(crate::specs::Parts::record_of))]
 pub fn record(heap: Global, text: &[u8], defaults: Defaults) -> Result<Vec<u8>, Problem>
     ensures { Told result vec_items (record_of defaults text.now) }
 {
