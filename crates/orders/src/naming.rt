@@ -2,7 +2,7 @@ ghost use Rattle.std.specs.Prelude.{◌≡◌};
 ghost use Rattle.orders.specs.Names.{name_of, verdict_of, kind_of};
 
 use effects::Kind;
-use words::{Problem, is};
+use words::Problem;
 
 /// The commands that a member is asked by.
 #[derive(Clone, Copy, Debug)]
@@ -15,25 +15,20 @@ pub enum Name {
     State,
 }
 
-impl Name {
-    /// The command that a word names.
-    pub fn of(word: &[u8]) -> Result<Name, Problem>
-        ensures { result ≡ name_of word.now }
-    {
-        if is(word, "updated") {
-            Ok(Name::Updated)
-        } else if is(word, "certified") {
-            Ok(Name::Certified)
-        } else if is(word, "replayed") {
-            Ok(Name::Replayed)
-        } else if is(word, "settled") {
-            Ok(Name::Settled)
-        } else if is(word, "produce") {
-            Ok(Name::Produce)
-        } else if is(word, "state") {
-            Ok(Name::State)
-        } else {
-            Err(Problem::UnknownCommand)
+impl TryFrom<&[u8]> for Name {
+    type Error = Problem;
+
+    ghost try_from_gives = { λ w r. r ≡ name_of w.now };
+
+    fn try_from(word: &[u8]) -> Result<Name, Problem> {
+        match word {
+            b"updated" => Ok(Name::Updated),
+            b"certified" => Ok(Name::Certified),
+            b"replayed" => Ok(Name::Replayed),
+            b"settled" => Ok(Name::Settled),
+            b"produce" => Ok(Name::Produce),
+            b"state" => Ok(Name::State),
+            _ => Err(Problem::UnknownCommand),
         }
     }
 }
@@ -42,14 +37,11 @@ impl Name {
 pub fn verdict(word: &[u8]) -> Result<bool, Problem>
     ensures { result ≡ verdict_of word.now }
 {
-    if word.is_empty() {
-        Err(Problem::MissingWord)
-    } else if is(word, "pass") {
-        Ok(true)
-    } else if is(word, "fail") {
-        Ok(false)
-    } else {
-        Err(Problem::NotAVerdict)
+    match word {
+        b"" => Err(Problem::MissingWord),
+        b"pass" => Ok(true),
+        b"fail" => Ok(false),
+        _ => Err(Problem::NotAVerdict),
     }
 }
 
@@ -57,13 +49,10 @@ pub fn verdict(word: &[u8]) -> Result<bool, Problem>
 pub fn ask_kind(word: &[u8]) -> Result<Kind, Problem>
     ensures { result ≡ kind_of word.now }
 {
-    if word.is_empty() {
-        Err(Problem::MissingWord)
-    } else if is(word, "nullification") {
-        Ok(Kind::Nullification)
-    } else if is(word, "notarization") {
-        Ok(Kind::Notarization)
-    } else {
-        Err(Problem::NotAnAsk)
+    match word {
+        b"" => Err(Problem::MissingWord),
+        b"nullification" => Ok(Kind::Nullification),
+        b"notarization" => Ok(Kind::Notarization),
+        _ => Err(Problem::NotAnAsk),
     }
 }

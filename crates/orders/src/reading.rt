@@ -9,6 +9,7 @@ use std::alloc::Global;
 use words::{Problem, after, end, number, word};
 
 /// Reads `RECORD` as evidence.
+#[tactic(auto, unfolding(crate::specs::Orders::updated_of, words::specs::Problems::bind))]
 fn updated(heap: Global, text: &[u8], defaults: Defaults) -> Result<Order, Problem>
     ensures { Told result meant (updated_of defaults text.now) }
 {
@@ -17,6 +18,7 @@ fn updated(heap: Global, text: &[u8], defaults: Defaults) -> Result<Order, Probl
 }
 
 /// Reads `pass|fail RECORD`.
+#[tactic(auto, unfolding(crate::specs::Orders::certified_of, words::specs::Problems::bind))]
 fn certified(heap: Global, text: &[u8], defaults: Defaults) -> Result<Order, Problem>
     ensures { Told result meant (certified_of defaults text.now) }
 {
@@ -26,6 +28,7 @@ fn certified(heap: Global, text: &[u8], defaults: Defaults) -> Result<Order, Pro
 }
 
 /// Reads `VIEW ASKKIND`.
+#[tactic(auto, unfolding(crate::specs::Orders::settled_of, words::specs::Problems::bind))]
 fn settled(text: &[u8]) -> Result<Order, Problem>
     ensures { Told result meant (settled_of text.now) }
 {
@@ -36,6 +39,7 @@ fn settled(text: &[u8]) -> Result<Order, Problem>
 }
 
 /// Reads `VIEW`.
+#[tactic(auto, unfolding(crate::specs::Orders::produce_of, words::specs::Problems::bind))]
 fn produce(text: &[u8]) -> Result<Order, Problem>
     ensures { Told result meant (produce_of text.now) }
 {
@@ -45,6 +49,7 @@ fn produce(text: &[u8]) -> Result<Order, Problem>
 }
 
 /// Reads nothing more.
+#[tactic(auto, unfolding(crate::specs::Orders::plain_of, words::specs::Problems::bind))]
 fn plain(text: &[u8], order: Order) -> Result<Order, Problem>
     ensures { Told result meant (plain_of (meant order) text.now) }
 {
@@ -53,11 +58,12 @@ fn plain(text: &[u8], order: Order) -> Result<Order, Problem>
 }
 
 /// The order that a line's words write.
+#[tactic(auto, unfolding(crate::specs::Orders::order_of, words::specs::Problems::bind))]
 pub fn read_order(heap: Global, text: &[u8], defaults: Defaults) -> Result<Order, Problem>
     ensures { Told result meant (order_of defaults text.now) }
 {
     let rest = after(text, 1);
-    match Name::of(word(text, 0))? {
+    match Name::try_from(word(text, 0))? {
         Name::Updated => updated(heap, rest, defaults),
         Name::Certified => certified(heap, rest, defaults),
         Name::Replayed => plain(rest, Order::Replayed),

@@ -16,6 +16,7 @@ pub struct Setup {
 }
 
 /// The setup that the words `L EPOCH N Q` write.
+#[tactic(auto, unfolding(crate::specs::Setups::setup_of, words::specs::Problems::bind))]
 pub fn read_setup(text: &[u8]) -> Result<Setup, Problem>
     ensures { result ≡ setup_of text.now }
 {
