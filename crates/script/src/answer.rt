@@ -52,37 +52,36 @@ fn numbers(length: u32, view: u64) -> Result<Answer, terms::Fault>
 pub fn term(length: u32, view: u64) -> Answer
     ensures { result ≡ term_answer length view }
 {
-    match numbers(length, view) {
-        Ok(answer) => answer,
-        Err(fault) => Answer::Refused(fault.refusal()),
-    }
+    numbers(length, view)
+        .map_err(|fault| fault.refusal())
+        .unwrap_or_else(Answer::Refused)
 }
 
 /// Answers `covers L U V`.
 pub fn covers(length: u32, nullified: u64, view: u64) -> Answer
     ensures { result ≡ covers_answer length nullified view }
 {
-    match TermLength::new(length) {
-        Ok(length) => {
+    TermLength::new(length)
+        .map(|length| {
             if length.covers(nullified, view) {
                 Answer::Yes
             } else {
                 Answer::No
             }
-        }
-        Err(fault) => Answer::Refused(fault.refusal()),
-    }
+        })
+        .map_err(|fault| fault.refusal())
+        .unwrap_or_else(Answer::Refused)
 }
 
 /// Answers `read RECORD`, by the record's bytes.
 pub fn read(bytes: &[u8]) -> Answer
     ensures { result ≡ read_answer bytes.now }
 {
-    match Certificate::read(bytes) {
-        Ok(certificate) => Answer::Says {
+    Certificate::read(bytes)
+        .map(|certificate| Answer::Says {
             header: certificate.header(),
             parent: certificate.parent(),
-        },
-        Err(fault) => Answer::Refused(fault.refusal()),
-    }
+        })
+        .map_err(|fault| fault.refusal())
+        .unwrap_or_else(Answer::Refused)
 }

@@ -1,7 +1,7 @@
 ghost use Rattle.std.specs.Prelude.{◌≡◌};
 ghost use Rattle.script.specs.Commands.{command_of};
 
-use words::{Problem, is};
+use words::Problem;
 
 /// What a line's first word asks for.
 #[derive(Clone, Copy, Debug)]
@@ -13,21 +13,18 @@ pub enum Command {
     Read,
 }
 
-impl Command {
-    /// The command that a word names.
-    pub fn named(word: &[u8]) -> Result<Command, Problem>
-        ensures { result ≡ command_of word.now }
-    {
-        if word.is_empty() {
-            Ok(Command::Nothing)
-        } else if is(word, "term") {
-            Ok(Command::Term)
-        } else if is(word, "covers") {
-            Ok(Command::Covers)
-        } else if is(word, "read") {
-            Ok(Command::Read)
-        } else {
-            Err(Problem::UnknownCommand)
+impl TryFrom<&[u8]> for Command {
+    type Error = Problem;
+
+    ghost try_from_gives = { λ w r. r ≡ command_of w.now };
+
+    fn try_from(word: &[u8]) -> Result<Command, Problem> {
+        match word {
+            b"" => Ok(Command::Nothing),
+            b"term" => Ok(Command::Term),
+            b"covers" => Ok(Command::Covers),
+            b"read" => Ok(Command::Read),
+            _ => Err(Problem::UnknownCommand),
         }
     }
 }

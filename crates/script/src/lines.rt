@@ -10,6 +10,7 @@ use std::alloc::Global;
 use words::{Problem, after, end, number, short_number, uncommented, word};
 
 /// Runs `term L VIEW`, by the words behind its name.
+#[tactic(auto, unfolding(crate::specs::Lines::term_run, words::specs::Problems::bind))]
 fn run_term(text: &[u8]) -> Result<Answer, Problem>
     ensures { result ≡ term_run text.now }
 {
@@ -20,6 +21,7 @@ fn run_term(text: &[u8]) -> Result<Answer, Problem>
 }
 
 /// Runs `covers L U V`.
+#[tactic(auto, unfolding(crate::specs::Lines::covers_run, words::specs::Problems::bind))]
 fn run_covers(text: &[u8]) -> Result<Answer, Problem>
     ensures { result ≡ covers_run text.now }
 {
@@ -31,6 +33,7 @@ fn run_covers(text: &[u8]) -> Result<Answer, Problem>
 }
 
 /// Runs `read RECORD`.
+#[tactic(auto, unfolding(crate::specs::Lines::read_run, words::specs::Problems::bind))]
 fn run_read(heap: Global, text: &[u8]) -> Result<Answer, Problem>
     ensures { Told result same (read_run text.now) }
 {
@@ -40,12 +43,13 @@ fn run_read(heap: Global, text: &[u8]) -> Result<Answer, Problem>
 }
 
 /// What a line answers: nothing, if it has no word.
+#[tactic(auto, unfolding(crate::specs::Lines::text_run, words::specs::Problems::bind))]
 pub fn answer_line(heap: Global, line: &[u8]) -> Result<Option<Answer>, Problem>
     ensures { Told result same (line_run line.now) }
 {
     let text = uncommented(line);
     let rest = after(text, 1);
-    match Command::named(word(text, 0))? {
+    match Command::try_from(word(text, 0))? {
         Command::Nothing => Ok(None),
         Command::Term => Ok(Some(run_term(rest)?)),
         Command::Covers => Ok(Some(run_covers(rest)?)),
