@@ -9,9 +9,8 @@ use std::io::{BufWriter, Read, Write};
 
 /// Writes the reply to each line of a text, and returns whether every line was a command.
 fn replies<W: Write>(heap: Global, text: &[u8], out: &mut W) -> io::Result<bool> {
-    let mut lines = Numbered::new(text);
     let mut clean = true;
-    while let Some(reply) = lines.reply(heap) {
+    for reply in Numbered::new(heap, text) {
         if let Reply::Error { .. } = reply {
             clean = false;
         }

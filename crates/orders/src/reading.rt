@@ -13,8 +13,7 @@ use words::{Problem, after, end, number, word};
 fn updated(heap: Global, text: &[u8], defaults: Defaults) -> Result<Order, Problem>
     ensures { Told result meant (updated_of defaults text.now) }
 {
-    let bytes = record(heap, text, defaults)?;
-    Ok(Order::Updated(bytes))
+    record(heap, text, defaults).map(Order::Updated)
 }
 
 /// Reads `pass|fail RECORD`.

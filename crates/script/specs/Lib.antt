@@ -2,3 +2,4 @@ pub mod Answers
 pub mod Commands
 pub mod Lines
 pub mod Replies
+pub mod Steps

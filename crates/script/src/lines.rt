@@ -51,8 +51,8 @@ pub fn answer_line(heap: Global, line: &[u8]) -> Result<Option<Answer>, Problem>
     let rest = after(text, 1);
     match Command::try_from(word(text, 0))? {
         Command::Nothing => Ok(None),
-        Command::Term => Ok(Some(run_term(rest)?)),
-        Command::Covers => Ok(Some(run_covers(rest)?)),
-        Command::Read => Ok(Some(run_read(heap, rest)?)),
+        Command::Term => run_term(rest).map(Some),
+        Command::Covers => run_covers(rest).map(Some),
+        Command::Read => run_read(heap, rest).map(Some),
     }
 }

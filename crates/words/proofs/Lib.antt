@@ -1,4 +1,3 @@
-pub mod Binds
 pub mod Numerals
 pub mod Pairs
 pub mod Runs
