@@ -38,8 +38,8 @@ impl fmt::Display for Answer {
 }
 
 /// The start and the end of a view's term, and the start of the next.
-fn numbers(length: u32, view: u64) -> Result<Answer, terms::Fault>
-    ensures { MatchResult result (λ a. a ≡ term_answer length view) (λ f. Refused (refusal_of f) ≡ term_answer length view) }
+fn numbers(length: u32, view: u64) -> Result<Answer, Refusal>
+    ensures { MatchResult result (λ a. a ≡ term_answer length view) (λ f. Refused f ≡ term_answer length view) }
 {
     let length = TermLength::new(length)?;
     let start = length.term_start(view);
@@ -52,9 +52,7 @@ fn numbers(length: u32, view: u64) -> Result<Answer, terms::Fault>
 pub fn term(length: u32, view: u64) -> Answer
     ensures { result ≡ term_answer length view }
 {
-    numbers(length, view)
-        .map_err(|fault| fault.refusal())
-        .unwrap_or_else(Answer::Refused)
+    numbers(length, view).unwrap_or_else(Answer::Refused)
 }
 
 /// Answers `covers L U V`.
@@ -69,7 +67,7 @@ pub fn covers(length: u32, nullified: u64, view: u64) -> Answer
                 Answer::No
             }
         })
-        .map_err(|fault| fault.refusal())
+        .map_err(Refusal::from)
         .unwrap_or_else(Answer::Refused)
 }
 
@@ -82,6 +80,6 @@ pub fn read(bytes: &[u8]) -> Answer
             header: certificate.header(),
             parent: certificate.parent(),
         })
-        .map_err(|fault| fault.refusal())
+        .map_err(Refusal::from)
         .unwrap_or_else(Answer::Refused)
 }
