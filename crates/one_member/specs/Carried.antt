@@ -1,5 +1,5 @@
 -- What a member answers to an order, and what the order changes.
-use Rattle.std.specs.Prelude.{◌≡◌, ℕ, Bool, true, false, cond, List, is_some, Ok, Err, MatchResult}
+use Rattle.std.specs.Prelude.{◌≡◌, ℕ, Bool, cond, is_some, Ok, Err, MatchResult}
 use Rattle.effects.specs.declared.listed.Effects.{Effects}
 use Rattle.effects.specs.Lists.{places}
 use Rattle.orders.specs.Orders.{Meant, update, judge, end, ask, serve, tell}
