@@ -11,6 +11,7 @@ use terms::TermLength;
 use views::{View, Viewable};
 
 /// The highest nullification that covers `view`, if there is one.
+#[tactic(auto, using(crate::proofs::Covers::nothing_below, crate::proofs::Covers::this_covers, crate::proofs::Covers::another_term, crate::proofs::Covers::by_some_row, crate::proofs::Covers::covered_if_found, terms::proofs::Laws::to_the_end), unfolding(crate::specs::Covers::cover))]
 pub fn covering<R: Copy + Viewable>(
     nullifications: &Table<R>,
     length: TermLength,

@@ -18,6 +18,7 @@ use terms::{Fault, TermLength};
 use views::{View, Viewable};
 
 /// The first anchor from `low` on that is not below `current`.
+#[tactic(auto, using(crate::proofs::Cursors::lands_here, crate::proofs::Cursors::lands_past), unfolding(crate::specs::Gaps::first_start))]
 fn landing(term_length: TermLength, low: View, current: View) -> View
     requires { current ≤ 2 ^ 62 }
     ensures { result ≡ landing (views_of term_length) low current }
@@ -33,6 +34,7 @@ fn landing(term_length: TermLength, low: View, current: View) -> View
 
 /// Whether more than `most` gaps stand from `low` up to `current`. It looks at no more than one gap past these, and at
 /// no more covered anchors than there are nullifications.
+#[tactic(auto, using(crate::proofs::Gaps::gaps_exactly, crate::proofs::Gaps::no_growth, crate::proofs::Gaps::same_gaps, crate::proofs::Gaps::no_gaps))]
 pub fn exceeds<R: Copy + Viewable>(
     nullifications: &Table<R>,
     term_length: TermLength,

@@ -18,6 +18,7 @@ impl<'a, R: Copy + Viewable> Table<'a, R> {
     ghost use Rattle.table.specs.Tables.{entries, capacity};
 
     /// The empty table.
+    #[tactic(auto, using(crate::proofs::Laws::nothing_found))]
     pub fn new(rows: &'a mut [R]) -> Table<'a, R>
         ensures rows { entries result ≡ [] }
         ensures cap { capacity result ≡ length rows.old }
@@ -63,6 +64,7 @@ impl<'a, R: Copy + Viewable> Table<'a, R> {
     }
 
     /// The row of `view`, if there is one.
+    #[tactic(auto, using(crate::proofs::Placing::lookup_present, crate::proofs::Placing::lookup_absent, crate::proofs::Laws::of_its_view))]
     pub fn get(&self, view: View) -> Option<R>
         ensures value { result ≡ lookup R.Viewable.viewed view (entries self.now) }
         ensures of_its_view { OfItsView R.Viewable.viewed view result }
