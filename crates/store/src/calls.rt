@@ -13,6 +13,7 @@ use views::{View, Viewable};
 
 impl<'a, R: Copy + Viewable> Store<'a, R> {
     /// Records a finalization.
+    #[tactic(auto, unfolding(crate::specs::Steps::finalization_taken, crate::specs::Steps::finalization_effects, crate::specs::Steps::raised_effects, crate::specs::Steps::pruned, crate::specs::Steps::finalized_at))]
     fn finalize(&mut self, held: R, effects: &mut Effects)
         ensures turned { Roomy self.old → finalized (values self.old) ≤ 2 ^ 62 → R.Viewable.viewed held ≤ 2 ^ 62 → Turned self.old self.new (finalization_taken (length_of self.old) held (values self.old)) }
         ensures added { Roomy self.old → finalized (values self.old) ≤ 2 ^ 62 → R.Viewable.viewed held ≤ 2 ^ 62 → HasRoom 2 effects.old → Added (finalization_effects (length_of self.old) held (values self.old)) effects.old effects.new }
@@ -37,6 +38,7 @@ impl<'a, R: Copy + Viewable> Store<'a, R> {
     }
 
     /// Fetches the gaps that no plan has come to yet, and moves the cursor past them. Nothing is planned in replay.
+    #[tactic(auto, unfolding(crate::specs::Steps::planned, crate::specs::Steps::planned_effects))]
     fn fetch_missing(&mut self, cause: View, effects: &mut Effects)
         ensures turned { Low (values self.old) → Turned self.old self.new (planned (length_of self.old) (values self.old)) }
         ensures added { Low (values self.old) → HasRoom (length (planned_effects (length_of self.old) cause (values self.old))) effects.old → Added (planned_effects (length_of self.old) cause (values self.old)) effects.old effects.new }
@@ -96,6 +98,7 @@ impl<'a, R: Copy + Viewable> Store<'a, R> {
     }
 
     /// Records a failure: no copy of the notarization can pass anywhere, so none is served or asked for again.
+    #[tactic(auto, unfolding(crate::specs::Steps::failing, crate::specs::Steps::failing_effects, crate::specs::Steps::failed_at))]
     fn fail(&mut self, view: View, effects: &mut Effects)
         ensures turned { Roomy self.old → VerdictRoom (length_of self.old) false view (values self.old) → Turned self.old self.new (failing (length_of self.old) view (values self.old)) }
         ensures added { Roomy self.old → VerdictRoom (length_of self.old) false view (values self.old) → HasRoom 1 effects.old → Added (failing_effects (length_of self.old) view (values self.old)) effects.old effects.new }
@@ -128,6 +131,7 @@ impl<'a, R: Copy + Viewable> Store<'a, R> {
     }
 
     /// Fetches each failed view that still needs a nullification, in ascending order.
+    #[tactic(auto, unfolding(crate::specs::Steps::failed_bare))]
     fn fetch_failed(&self, effects: &mut Effects)
         ensures { HasRoom (length (failed_bare (length_of self.now) (values self.now))) effects.old → Added (map failed_fetch (failed_bare (length_of self.now) (values self.now))) effects.old effects.new }
     {
@@ -137,6 +141,7 @@ impl<'a, R: Copy + Viewable> Store<'a, R> {
     }
 
     /// Ends the replay, and plans what was put off until now.
+    #[tactic(auto, unfolding(crate::specs::Steps::planned))]
     pub fn replayed(&mut self, effects: &mut Effects)
         ensures turned { Low (values self.old) → Turned self.old self.new (replayed (length_of self.old) (values self.old)) }
         ensures added { Low (values self.old) → HasRoom (length (replayed_effects (length_of self.old) (values self.old))) effects.old → Added (replayed_effects (length_of self.old) (values self.old)) effects.old effects.new }

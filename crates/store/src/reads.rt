@@ -15,6 +15,7 @@ use views::{View, Viewable};
 
 impl<'a, R: Copy + Viewable> Store<'a, R> {
     /// Nothing recorded, at the start of a replay.
+    #[tactic(auto, unfolding(crate::specs::Fresh::fresh))]
     pub fn new(term_length: TermLength, epoch: u64, memory: Memory<'a, R>) -> Store<'a, R>
         ensures values { values result ≡ fresh }
         ensures fixed { (result.term_length ≡ term_length) × (result.epoch ≡ epoch) }
@@ -50,10 +51,7 @@ impl<'a, R: Copy + Viewable> Store<'a, R> {
     pub fn last_finalized(&self) -> View
         ensures { result ≡ finalized (values self.now) }
     {
-        match self.finalization.get() {
-            Some(held) => held.view(),
-            None => 0,
-        }
+        self.finalization.get().map_or(0, |held| held.view())
     }
 
     /// Whether `view` still needs a nullification: it is above the floor, and none covers it.

@@ -26,6 +26,7 @@ fn or_insert<R: Copy + Viewable>(rows: &mut Table<R>, held: R)
 
 impl<'a, R: Copy + Viewable> Store<'a, R> {
     /// Records a nullification, unless its term is finalized.
+    #[tactic(auto, unfolding(crate::specs::Steps::nullified, crate::specs::Steps::nullified_effects))]
     pub(crate) fn nullify(&mut self, held: R, effects: &mut Effects)
         ensures turned { R.Viewable.viewed held ≤ 2 ^ 62 → (nullification_counts (length_of self.old) (R.Viewable.viewed held) (values self.old) ≡ true → is_nullified (R.Viewable.viewed held) (values self.old) ≡ false → length (entries self.old.nullifications) < capacity self.old.nullifications) → Turned self.old self.new (nullified (length_of self.old) held (values self.old)) }
         ensures added { R.Viewable.viewed held ≤ 2 ^ 62 → HasRoom 1 effects.old → Added (nullified_effects (length_of self.old) (R.Viewable.viewed held) (values self.old)) effects.old effects.new }
@@ -56,6 +57,7 @@ impl<'a, R: Copy + Viewable> Store<'a, R> {
     }
 
     /// Records a notarization above the finalized view, unless it failed.
+    #[tactic(auto, unfolding(crate::specs::Steps::notarized, crate::specs::Steps::notarized_effects))]
     pub(crate) fn notarize(&mut self, view: View, effects: &mut Effects)
         ensures turned { (notarization_counts (length_of self.old) view (values self.old) ≡ true → is_certified view (values self.old) ≡ false → is_pending view (values self.old) ≡ false → length (entries self.old.pending_notarizations) < capacity self.old.pending_notarizations) → Turned self.old self.new (notarized (length_of self.old) view (values self.old)) }
         ensures added { HasRoom 1 effects.old → Added (notarized_effects (length_of self.old) view (values self.old)) effects.old effects.new }
@@ -75,6 +77,7 @@ impl<'a, R: Copy + Viewable> Store<'a, R> {
     }
 
     /// Keeps a finalization that is higher than the one kept.
+    #[tactic(auto, unfolding(crate::specs::Steps::finalized_at))]
     pub(crate) fn keep_finalization(&mut self, held: R)
         ensures { 0 < lent self.old.finalization → Turned self.old self.new (finalized_at (length_of self.old) held (values self.old)) }
     {
@@ -86,6 +89,7 @@ impl<'a, R: Copy + Viewable> Store<'a, R> {
 
     /// Drops what finalization has ruled out. A term ends above the finalized view exactly if it is not below the
     /// term of the view after that.
+    #[tactic(auto, unfolding(crate::specs::Steps::pruned))]
     pub(crate) fn retire(&mut self)
         ensures { finalized (values self.old) ≤ 2 ^ 62 → Turned self.old self.new (pruned (length_of self.old) (values self.old)) }
     {
@@ -98,6 +102,7 @@ impl<'a, R: Copy + Viewable> Store<'a, R> {
     }
 
     /// The cursor after a raise: one that lands mid-term pulls it back to the view after the floor.
+    #[tactic(auto, unfolding(planning::specs::Gaps::pulled))]
     fn pulled_back(&self, floor: View) -> View
         ensures { floor ≤ 2 ^ 62 → result ≡ pulled (length_of self.now) self.now.cursor floor }
     {
@@ -110,6 +115,7 @@ impl<'a, R: Copy + Viewable> Store<'a, R> {
     }
 
     /// Raises the floor to a view above it.
+    #[tactic(auto, unfolding(crate::specs::Steps::raised, crate::specs::Steps::raised_effects))]
     pub(crate) fn raise(&mut self, floor: View, effects: &mut Effects)
         ensures turned { floor ≤ 2 ^ 62 → Turned self.old self.new (raised (length_of self.old) floor (values self.old)) }
         ensures added { HasRoom 1 effects.old → Added (raised_effects (length_of self.old) floor (values self.old)) effects.old effects.new }
@@ -123,6 +129,7 @@ impl<'a, R: Copy + Viewable> Store<'a, R> {
     }
 
     /// Keeps a notarization that passed, above the finalized view.
+    #[tactic(auto, unfolding(crate::specs::Steps::certified_at))]
     pub(crate) fn keep_certified(&mut self, held: R)
         ensures { (finalized (values self.old) < R.Viewable.viewed held → is_certified (R.Viewable.viewed held) (values self.old) ≡ false → length (entries self.old.certified_notarizations) < capacity self.old.certified_notarizations) → Turned self.old self.new (certified_at (length_of self.old) held (values self.old)) }
     {
@@ -133,6 +140,7 @@ impl<'a, R: Copy + Viewable> Store<'a, R> {
     }
 
     /// Marks a view above the finalized one as failed.
+    #[tactic(auto, unfolding(crate::specs::Steps::failed_at))]
     pub(crate) fn mark_failed(&mut self, view: View)
         ensures { (finalized (values self.old) < view → has_failed view (values self.old) ≡ false → length (entries self.old.uncertifiable_notarizations) < capacity self.old.uncertifiable_notarizations) → Turned self.old self.new (failed_at (length_of self.old) view (values self.old)) }
     {
