@@ -1,5 +1,5 @@
 -- Which gaps a list of effects fetches.
-use Rattle.std.proofs.Common.{◌≡◌, ℕ, Bool, true, false, cond, ◌||◌, eqb, ltb, List, [], ◌∷◌, ◌++◌, map, sym, refl, ap, ◌∙◌}
+use Rattle.std.proofs.Common.{◌≡◌, ℕ, Bool, true, false, cond, ◌||◌, eqb, ltb, List, [], ◌∷◌, ◌++◌, map, sym, refl, ap, ◌∙◌, rules}
 use Rattle.std.proofs.lemmas.Bool.{cond_both, or_from}
 use Rattle.effects.specs.declared.effect.Effect.{Effect}
 use Rattle.effects.specs.declared.effect.Effect.TheVariants.{Settled, Raised}
@@ -40,17 +40,17 @@ module _ (v : ℕ) where
   module _ {R : Type 0} {g : viewable.Ghosts R} (L : ℕ) where
     pub taken_none : (k : Kind) (h : R) (s : Values R g) → fetched v (taken_effects L k h s) ≡ false
     unfolding nullified_effects notarized_effects finalization_effects raised_effects
-    taken_none Nullification h s = if_due_none (nullification_counts L (g.viewed h) s) (Settled ask.Nullification (g.viewed h) (end L (g.viewed h))) refl
-    taken_none Notarization h s = if_due_none (notarization_counts L (g.viewed h) s) (settles (g.viewed h)) refl
-    taken_none Finalization h s = if_due_none (ltb s.floor (g.viewed h)) (Raised (g.viewed h)) refl
+    taken_none Nullification h s = search rules
+    taken_none Notarization h s = search rules
+    taken_none Finalization h s = search rules
 
     pub raised_none : (u : ℕ) (s : Values R g) → fetched v (raised_effects L u s) ≡ false
     unfolding raised_effects
-    raised_none u s = if_due_none (ltb s.floor u) (Raised u) refl
+    raised_none u s = search rules
 
     pub failing_none : (u : ℕ) (s : Values R g) → fetched v (failing_effects L u s) ≡ false
     unfolding failing_effects
-    failing_none u s = cond_both s.replaying [] (cond (is_bare L s u) (failed_fetch u ∷ []) []) (λ es. fetched v es ≡ false) (λ _. refl) (λ _. if_due_none (is_bare L s u) (failed_fetch u) refl)
+    failing_none u s = search rules
 
     pub planned_fetches : (cause : ℕ) (s : Values R g) → s.replaying ≡ false → fetched v (planned_effects L cause s) ≡ among v (unplanned L s)
     unfolding planned_effects

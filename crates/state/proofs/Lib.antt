@@ -8,4 +8,3 @@ pub mod Moves
 pub mod Settles
 pub mod Sounds
 pub mod Steps
-pub mod Testing

@@ -1,5 +1,5 @@
 -- What is settled stays settled, and what is dropped is finalized.
-use Rattle.std.proofs.Common.{◌≡◌, ℕ, ◌<◌, ◌≤◌, true, cond, not, ◌&&◌, ◌||◌, ltb, leb, is_some, Some, sym, refl, ap, ◌∙◌, subst, inl, inr, arith}
+use Rattle.std.proofs.Common.{◌≡◌, ℕ, ◌<◌, ◌≤◌, true, cond, not, ◌&&◌, ◌||◌, ltb, leb, is_some, Some, sym, refl, ap, ◌∙◌, subst, inl, inr, arith, rules}
 use Rattle.std.proofs.lemmas.Bool.{cases_Bool, cases_lt, cases_eq, cond_both, ltb-true, ltb-false, lt-ltb, leb-true, le-leb, or_cases, or_left, or_right, and_parts, not-true}
 use Rattle.effects.specs.declared.effect.Kind.{Kind as Ask}
 use Rattle.effects.specs.declared.effect.Kind.TheVariants as ask
@@ -21,27 +21,21 @@ module _ {R : Type 0} {g : viewable.Ghosts R} (L : ℕ) (s t : Values R g) (high
   -- it is enough that what is answered above the finalized view stays answered
   pub grows_if : ((k : Ask) (v : ℕ) → finalized t < v → answered L k v s ≡ true → answered L k v t ≡ true) → SettledOnlyGrows L s t
   unfolding settled
-  grows_if stays k v is = elim (cases_lt (finalized t) v) [
-    | inl past ↦ elim (or_cases (leb v (finalized s)) (answered L k v s) is) [
-      | inl old ↦ absurd (omega (arith, leb-true v (finalized s) old, past, higher))
-      | inr a ↦ or_right (leb v (finalized t)) (answered L k v t) (stays k v past a)
-    ]
-    | inr below ↦ or_left (leb v (finalized t)) (answered L k v t) (le-leb v (finalized t) below)
-  ]
+  grows_if stays k v is = let a = stays k v in search rules
 
 -- the three ways to have a notarization answered
 module _ {R : Type 0} {g : viewable.Ghosts R} (L : ℕ) (s t : Values R g) (v : ℕ) where
   waits : is_pending v t ≡ true → answered L ask.Notarization v t ≡ true
-  waits e = or_left (is_pending v t) (is_certified v t || has_failed v t) e
+  waits e = search rules
 
   passes : is_certified v t ≡ true → answered L ask.Notarization v t ≡ true
-  passes e = or_right (is_pending v t) (is_certified v t || has_failed v t) (or_left (is_certified v t) (has_failed v t) e)
+  passes e = search rules
 
   fails : has_failed v t ≡ true → answered L ask.Notarization v t ≡ true
-  fails e = or_right (is_pending v t) (is_certified v t || has_failed v t) (or_right (is_certified v t) (has_failed v t) e)
+  fails e = search rules
 
   each_way : (is_pending v s ≡ true → answered L ask.Notarization v t ≡ true) → (is_certified v s ≡ true → answered L ask.Notarization v t ≡ true) → (has_failed v s ≡ true → answered L ask.Notarization v t ≡ true) → answered L ask.Notarization v s ≡ true → answered L ask.Notarization v t ≡ true
-  each_way by-p by-c by-f is = elim (or_cases (is_pending v s) (is_certified v s || has_failed v s) is) [ inl e ↦ by-p e | inr more ↦ elim (or_cases (is_certified v s) (has_failed v s) more) [ inl e ↦ by-c e | inr e ↦ by-f e ] ]
+  each_way by-p by-c by-f is = search rules
 
 module _ {R : Type 0} {g : viewable.Ghosts R} (L : ℕ) (positive : 0 < L) (s : Values R g) (ok : Sound L s) where
   pub grows_evidence : (k : Kind) (h : R) → SettledOnlyGrows L s (planned L (before_planning L k h s))

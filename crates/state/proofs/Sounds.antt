@@ -1,5 +1,5 @@
 -- Each step keeps a state sound.
-use Rattle.std.proofs.Common.{◌≡◌, ℕ, ◌^◌, ◌<◌, ◌≤◌, max, true, false, cond, not, ◌&&◌, ltb, length, Some, sym, subst, inl, inr, arith}
+use Rattle.std.proofs.Common.{◌≡◌, ℕ, ◌^◌, ◌<◌, ◌≤◌, max, true, false, cond, not, ◌&&◌, ltb, length, Some, sym, subst, inl, inr, arith, rules}
 use Rattle.std.proofs.lemmas.Bool.{cond_both, ltb-true, ltb-false, and_parts, and_from, not_from_false}
 use Rattle.record.specs.declared.kind.Kind.{Kind}
 use Rattle.record.specs.declared.kind.Kind.TheVariants.{Notarization, Nullification, Finalization}
@@ -21,19 +21,7 @@ pub record Rises {R : Type 0} {g : viewable.Ghosts R} (s : Values R g) : Type 0 
 
 module _ {R : Type 0} {g : viewable.Ghosts R} (L : ℕ) (s : Values R g) (ok : Sound L s) where
   pub sound_seen : (v : ℕ) → v ≤ 2 ^ 62 → Sound L (seen L v s)
-  sound_seen v low = record {
-    nullifications_few = ok.nullifications_few;
-    pending_few = ok.pending_few;
-    certified_few = ok.certified_few;
-    failed_few = ok.failed_few;
-    floor_finalized = ok.floor_finalized;
-    floor_low = ok.floor_low;
-    current_low = omega (arith, ok.current_low);
-    nullifications_open = ok.nullifications_open;
-    pending_above = ok.pending_above;
-    certified_above = ok.certified_above;
-    failed_above = ok.failed_above;
-  }
+  sound_seen v low = search rules
 
   pub sound_nullified : (h : R) → Rises s → Room L Nullification (g.viewed h) s → Sound L (nullified L h s)
   unfolding nullified
@@ -147,38 +135,14 @@ module _ {R : Type 0} {g : viewable.Ghosts R} (L : ℕ) (s : Values R g) (ok : S
 
   pub sound_planned : Sound L (planned L s)
   unfolding planned
-  sound_planned = record {
-    nullifications_few = ok.nullifications_few;
-    pending_few = ok.pending_few;
-    certified_few = ok.certified_few;
-    failed_few = ok.failed_few;
-    floor_finalized = ok.floor_finalized;
-    floor_low = ok.floor_low;
-    current_low = ok.current_low;
-    nullifications_open = ok.nullifications_open;
-    pending_above = ok.pending_above;
-    certified_above = ok.certified_above;
-    failed_above = ok.failed_above;
-  }
+  sound_planned = search rules
 
   pub sound_ended : Sound L (ended L s)
-  sound_ended = record {
-    nullifications_few = ok.nullifications_few;
-    pending_few = ok.pending_few;
-    certified_few = ok.certified_few;
-    failed_few = ok.failed_few;
-    floor_finalized = ok.floor_finalized;
-    floor_low = ok.floor_low;
-    current_low = ok.current_low;
-    nullifications_open = ok.nullifications_open;
-    pending_above = ok.pending_above;
-    certified_above = ok.certified_above;
-    failed_above = ok.failed_above;
-  }
+  sound_ended = search rules
 
 module _ {R : Type 0} {g : viewable.Ghosts R} (L : ℕ) where
   pub sound_evidence : (k : Kind) (h : R) (s : Values R g) → Sound L s → Rises s → (g.viewed h) ≤ 2 ^ 62 → Room L k (g.viewed h) s → Sound L (before_planning L k h s)
   unfolding before_planning
-  sound_evidence Nullification h s ok up low room = sound_nullified L (seen L (g.viewed h) s) (sound_seen L s ok (g.viewed h) low) h (record { nullifications = up.nullifications; pending = up.pending; certified = up.certified; failed = up.failed }) room
-  sound_evidence Notarization h s ok up low room = sound_notarized L (seen L (g.viewed h) s) (sound_seen L s ok (g.viewed h) low) (g.viewed h) (record { nullifications = up.nullifications; pending = up.pending; certified = up.certified; failed = up.failed }) room
+  sound_evidence Nullification h s ok up low room = sound_nullified L (seen L (g.viewed h) s) (sound_seen L s ok (g.viewed h) low) h (search rules) room
+  sound_evidence Notarization h s ok up low room = sound_notarized L (seen L (g.viewed h) s) (sound_seen L s ok (g.viewed h) low) (g.viewed h) (search rules) room
   sound_evidence Finalization h s ok up low room = sound_finalized L (seen L (g.viewed h) s) (sound_seen L s ok (g.viewed h) low) h low

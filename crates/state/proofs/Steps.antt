@@ -1,5 +1,5 @@
 -- How each call moves floor, cursor and covers.
-use Rattle.std.proofs.Common.{◌≡◌, ℕ, ◌+◌, ◌<◌, ◌≤◌, min, true, false, cond, not, ◌&&◌, ltb, ◌⊎◌, Some, sym, refl, subst, inl, inr, arith}
+use Rattle.std.proofs.Common.{◌≡◌, ℕ, ◌+◌, ◌<◌, ◌≤◌, min, true, false, cond, not, ◌&&◌, ltb, ◌⊎◌, Some, sym, refl, subst, inl, inr, arith, rules}
 use Rattle.std.proofs.lemmas.Bool.{cases_Bool, cond_both, ltb-true, lt-ltb}
 use Rattle.planning.specs.Gaps.{pulled}
 use Rattle.record.specs.declared.kind.Kind.{Kind}
@@ -17,15 +17,15 @@ use Rattle.state.proofs.Growing.{guarded, grown_holds, kept_holds}
 -- a floor that rises only to what is above it
 module _ (L F cursor v : ℕ) where
   pub raised_up : F ≤ cond (ltb F v) v F
-  raised_up = cond_both (ltb F v) v F (λ n. F ≤ n) (λ t. omega (arith, ltb-true F v t)) (λ _. omega arith)
+  raised_up = search rules
 
   pub raised_moved : ((cond (ltb F v) v F ≡ F) × (cond (ltb F v) (pulled L cursor v) cursor ≡ cursor)) ⊎ ((F < cond (ltb F v) v F) × (cond (ltb F v) (pulled L cursor v) cursor ≡ pulled L cursor (cond (ltb F v) v F)))
-  raised_moved = elim (cases_Bool (ltb F v)) [ inl t ↦ rw t (inr (ltb-true F v t, refl)) | inr f ↦ rw f (inl (refl, refl)) ]
+  raised_moved = search rules
 
   -- a cursor at 0 stays there
   pub raised_first : cursor ≡ 0 → cond (ltb F v) (pulled L cursor v) cursor ≡ 0
   unfolding pulled
-  raised_first z = cond_both (ltb F v) (pulled L cursor v) cursor (λ n. n ≡ 0) (λ _. cond_both (is_start L (v + 1)) cursor (min cursor (v + 1)) (λ n. n ≡ 0) (λ _. z) (λ _. omega arith)) (λ _. z)
+  raised_first z = search rules
 
 module _ {R : Type 0} {g : viewable.Ghosts R} (L : ℕ) (positive : 0 < L) where
   -- what covers a view above the finalized one is kept

@@ -70,6 +70,7 @@ impl<'a, R: Record> State<'a, R> {
     }
 
     /// Records a verdict on a notarization that has been read.
+    #[tactic(auto, unfolding(crate::specs::Answers::verdict_answer))]
     pub fn certify(
         &mut self,
         notarization: R,

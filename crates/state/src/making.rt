@@ -8,6 +8,7 @@ ghost use Rattle.state.specs.declared.fault.Fault.TheVariants.{Terms, TooFewPlac
 use crate::{Fault, ROWS, State};
 use store::{Memory, Store};
 use terms::TermLength;
+use views::Viewable;
 
 /// Whether a host lends enough places.
 fn suffices<R>(memory: &Memory<R>) -> bool
@@ -19,7 +20,6 @@ fn suffices<R>(memory: &Memory<R>) -> bool
         && memory.certified_notarizations.len() >= ROWS
         && memory.uncertifiable_notarizations.len() >= ROWS
 }
-use views::Viewable;
 
 impl<'a, R: Copy + Viewable> State<'a, R> {
     /// Tests what a state is to be made over: a term length, and the places that the host would lend.

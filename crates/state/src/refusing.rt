@@ -90,6 +90,7 @@ impl<'a, R: Copy + Viewable> State<'a, R> {
     }
 
     /// Whether more gaps would stand after evidence than may.
+    #[tactic(auto, using(crate::proofs::Counting::gaps_after))]
     fn too_many_gaps(&self, kind: Kind, held: R) -> bool
         requires { R.Viewable.viewed held ≤ 2 ^ 62 }
         ensures { result ≡ gaps_over (term self.now) kind held (values self.now) }
@@ -106,6 +107,7 @@ impl<'a, R: Copy + Viewable> State<'a, R> {
     }
 
     /// The tests of evidence, in their order.
+    #[tactic(auto, unfolding(crate::specs::Answers::evidence_answer))]
     pub(crate) fn test_evidence(&self, kind: Kind, held: R) -> Result<(), Fault>
         ensures { result ≡ evidence_answer (term self.now) kind held (values self.now) }
     {
@@ -139,6 +141,7 @@ impl<'a, R: Copy + Viewable> State<'a, R> {
     }
 
     /// The tests of a verdict, in their order.
+    #[tactic(auto, unfolding(crate::specs::Answers::verdict_answer))]
     pub(crate) fn test_verdict(&self, kind: Kind, view: View, success: bool) -> Result<(), Fault>
         ensures { result ≡ verdict_answer (term self.now) success kind view (values self.now) }
     {
@@ -155,6 +158,7 @@ impl<'a, R: Copy + Viewable> State<'a, R> {
     }
 
     /// The test of the end of replay.
+    #[tactic(auto, unfolding(crate::specs::Answers::marker_answer))]
     pub(crate) fn test_marker(&self) -> Result<(), Fault>
         ensures { result ≡ marker_answer (term self.now) (values self.now) }
     {

@@ -30,6 +30,7 @@ impl<'a, R: Copy + Viewable> State<'a, R> {
     }
 
     /// The best record for a view: finality first, then a certified notarization, as whoever proposes would choose.
+    #[tactic(auto, unfolding(crate::specs::Serving::served))]
     fn served(&self, view: View) -> Option<R>
         ensures { result ≡ serves (term self.now) view (held self.now) }
     {

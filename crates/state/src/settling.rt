@@ -32,6 +32,7 @@ impl<'a, R: Copy + Viewable> State<'a, R> {
     }
 
     /// Whether an ask for `kind` at `view` is settled: nothing is left to fetch.
+    #[tactic(auto, unfolding(crate::specs::Settled::settled))]
     pub fn settled(&self, view: View, kind: Kind) -> bool
         ensures { result ≡ settles (term self.now) kind view (held self.now) }
     {
