@@ -1,5 +1,5 @@
 -- The gaps that would stand after evidence, told before it is recorded.
-use Rattle.std.proofs.Common.{◌≡◌, ℕ, ◌+◌, ◌<◌, ◌≤◌, max, Bool, true, false, cond, not, ◌&&◌, ltb, length, sym, refl, ap, ◌∙◌, inl, inr, arith}
+use Rattle.std.proofs.Common.{◌≡◌, ℕ, ◌+◌, ◌<◌, ◌≤◌, max, Bool, true, false, cond, not, ◌&&◌, ltb, length, sym, refl, ap, ◌∙◌, inl, inr, arith, rules}
 use Rattle.std.proofs.lemmas.Bool.{cond_both, ltb-false}
 use Rattle.cover.specs.Covers.{covered}
 use Rattle.planning.specs.Gaps.{gaps}
@@ -40,5 +40,5 @@ module _ {R : Type 0} {g : viewable.Ghosts R} (L : ℕ) (positive : 0 < L) where
   gaps_after Notarization h s above = ap (λ n. length (gaps L (is_covered L s) (s.floor + 1) n)) (omega arith)
   gaps_after Finalization h s above =
       let floor = cond (ltb s.floor (g.viewed h)) (g.viewed h) s.floor in
-      let high : (g.viewed h) ≤ floor = cond_both (ltb s.floor (g.viewed h)) (g.viewed h) s.floor (λ n. (g.viewed h) ≤ n) (λ t. omega arith) (λ f. ltb-false s.floor (g.viewed h) f) in
+      let high : (g.viewed h) ≤ floor = search rules in
       no_gaps L positive _ (floor + 1) (max s.current (g.viewed h)) (omega arith) ∙ sym (no_gaps L positive (is_covered L s) (max s.floor (g.viewed h) + 1) (g.viewed h) (omega arith))

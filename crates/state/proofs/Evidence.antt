@@ -1,8 +1,9 @@
 -- What evidence, a verdict and the marker leave: a lawful state, and the promises kept.
-use Rattle.std.proofs.Common.{◌≡◌, ℕ, ◌+◌, ◌^◌, ◌<◌, ◌≤◌, max, Bool, true, false, not, ◌&&◌, ◌||◌, ltb, leb, ◌∷◌, map, length, Ok, sym, refl, ap, ◌∙◌, subst, inl, inr, arith}
+use Rattle.std.proofs.Common.{◌≡◌, ℕ, ◌+◌, ◌^◌, ◌<◌, ◌≤◌, max, Bool, true, false, not, ◌&&◌, ◌||◌, ltb, leb, ◌∷◌, map, length, Ok, sym, refl, ap, ◌∙◌, subst, inl, inr, arith, rules}
 use Rattle.std.proofs.lemmas.List.Filters.{length-filter_both}
 use Rattle.std.proofs.lemmas.List.{length-append, length-map}
 use Rattle.std.proofs.lemmas.Bool.{true≢false, both_ways, cases_Bool, cases_lt, and_cases, lt-ltb, ltb-false, leb-false, not_from_false}
+use Rattle.std.proofs.lemmas.Grind.{common_steps}
 use Rattle.planning.specs.Gaps.{among, plan_start, gaps, landing}
 use Rattle.planning.proofs.Cursors.{cursor_lands}
 use Rattle.planning.proofs.Gaps.{gaps_exactly}
@@ -43,29 +44,22 @@ module _ {R : Type 0} {g : viewable.Ghosts R} (L : ℕ) where
 
   pub evidence_tested : (k : Kind) (h : R) (s : Values R g) → evidence_answer L k h s ≡ Ok tt → Tested k h s
   unfolding evidence_answer
-  evidence_tested k h s e =
-      let a = not_refused (ltb (2 ^ 62) (g.viewed h)) _ _ e in
-      let b = not_refused (row_due L k (g.viewed h) s && leb 128 (rows_held L k s)) _ _ a.1 in
-      let d = not_refused (gaps_over L k h s) _ _ b.1 in
-      record { low = ltb-false (2 ^ 62) (g.viewed h) a.0; room = room_from (row_due L k (g.viewed h) s) (rows_held L k s) b.0; gaps = d.0 }
+  evidence_tested k h s e = grind (arith, common_steps)
 
   pub verdict_tested : (b : Bool) (v : ℕ) (s : Values R g) → verdict_answer L b Notarization v s ≡ Ok tt → (v ≤ 2 ^ 62) × VerdictRoom L b v s
   unfolding verdict_answer
-  verdict_tested b v s e =
-      let a = not_refused (ltb (2 ^ 62) v) _ _ (not_refused (not (is_notarization Notarization)) NotANotarization _ e).1 in
-      let d = not_refused (verdict_due L b v s && leb 128 (verdict_rows L b s)) _ _ a.1 in
-      (ltb-false (2 ^ 62) v a.0, room_from (verdict_due L b v s) (verdict_rows L b s) d.0)
+  verdict_tested b v s e = grind (arith, common_steps)
 
   -- only a notarization passes
   pub only_notarization : (b : Bool) (k : Kind) (v : ℕ) (s : Values R g) → verdict_answer L b k v s ≡ Ok tt → verdict_answer L b Notarization v s ≡ Ok tt
   unfolding verdict_answer
   only_notarization b Notarization v s e = e
-  only_notarization b Nullification v s e = let z : ◌≡◌ {A = ℕ} 0 1 = cc in absurd (omega arith)
-  only_notarization b Finalization v s e = let z : ◌≡◌ {A = ℕ} 0 1 = cc in absurd (omega arith)
+  only_notarization b Nullification v s e = cc
+  only_notarization b Finalization v s e = cc
 
   pub marker_tested : (s : Values R g) → marker_answer L s ≡ Ok tt → length (gaps_of L s) ≤ 128
   unfolding marker_answer
-  marker_tested s e = ltb-false 128 (length (gaps_of L s)) (not_refused (ltb 128 (length (gaps_of L s))) _ _ e).0
+  marker_tested s e = grind (arith, common_steps)
 
   seen_highest : (k : Kind) (h : R) (s : Values R g) → (before_planning L k h s).current ≡ max s.current (g.viewed h)
   unfolding before_planning nullified notarized finalization_taken finalized_at pruned raised

@@ -5,6 +5,8 @@ use Rattle.effects.specs.declared.effect.Kind.{Kind as Ask}
 use Rattle.effects.specs.declared.effect.Kind.TheVariants as ask
 use Rattle.record.specs.declared.kind.Kind.{Kind}
 use Rattle.record.specs.declared.kind.Kind.TheVariants.{Notarization, Nullification, Finalization}
+use Rattle.std.proofs.lemmas.Grind.{common_steps}
+use Rattle.table.proofs.Laws.{one_more, one_less, only_kept}
 use Rattle.table.specs.Rows.{lookup, holds, with_row}
 use Rattle.terms.specs.Terms.{end}
 use Rattle.views.specs.declared.Viewable as viewable
@@ -23,77 +25,57 @@ module _ {R : Type 0} {g : viewable.Ghosts R} (L : ℕ) (s t : Values R g) (high
   unfolding settled
   grows_if stays k v is = let a = stays k v in search rules
 
--- the three ways to have a notarization answered
-module _ {R : Type 0} {g : viewable.Ghosts R} (L : ℕ) (s t : Values R g) (v : ℕ) where
-  waits : is_pending v t ≡ true → answered L ask.Notarization v t ≡ true
-  waits e = search rules
-
-  passes : is_certified v t ≡ true → answered L ask.Notarization v t ≡ true
-  passes e = search rules
-
-  fails : has_failed v t ≡ true → answered L ask.Notarization v t ≡ true
-  fails e = search rules
-
-  each_way : (is_pending v s ≡ true → answered L ask.Notarization v t ≡ true) → (is_certified v s ≡ true → answered L ask.Notarization v t ≡ true) → (has_failed v s ≡ true → answered L ask.Notarization v t ≡ true) → answered L ask.Notarization v s ≡ true → answered L ask.Notarization v t ≡ true
-  each_way by-p by-c by-f is = search rules
-
 module _ {R : Type 0} {g : viewable.Ghosts R} (L : ℕ) (positive : 0 < L) (s : Values R g) (ok : Sound L s) where
   pub grows_evidence : (k : Kind) (h : R) → SettledOnlyGrows L s (planned L (before_planning L k h s))
   unfolding planned before_planning nullified notarized finalization_taken finalized_at pruned raised
   grows_evidence Nullification h = grows_if L s _ (omega arith) (elim [
-    | ask.Nullification ↦ λ v past. stays_covered g.viewed L v s.nullifications _ (λ u c t. subst (λ rs. holds g.viewed u rs ≡ true) (sym (guarded (nullification_counts L (g.viewed h) s) (is_nullified (g.viewed h) s) s.nullifications (with_row g.viewed h s.nullifications))) (grown_holds g.viewed (nullification_counts L (g.viewed h) s && not (is_nullified (g.viewed h) s)) h s.nullifications u t))
+    | ask.Nullification ↦ λ v past. stays_covered g.viewed L v s.nullifications _ (λ u c t. let e = one_more g.viewed h s.nullifications u in grind (arith, common_steps))
     | ask.Notarization ↦ λ v past a. a
   ])
   grows_evidence Notarization h = grows_if L s _ (omega arith) (elim [
     | ask.Nullification ↦ λ v past a. a
-    | ask.Notarization ↦ λ v past a. each_way L s (planned L (before_planning L Notarization h s)) v
-        (λ t. waits L s (planned L (before_planning L Notarization h s)) v (subst (λ rs. holds mark_view v rs ≡ true) (sym (guarded (notarization_counts L (g.viewed h) s) (is_certified (g.viewed h) s) s.pending (with_row mark_view (mark (g.viewed h)) s.pending))) (grown_holds mark_view (notarization_counts L (g.viewed h) s && not (is_certified (g.viewed h) s)) (mark (g.viewed h)) s.pending v t)))
-        (λ t. passes L s (planned L (before_planning L Notarization h s)) v t)
-        (λ t. fails L s (planned L (before_planning L Notarization h s)) v t) a
+    | ask.Notarization ↦ λ v past a. let e = one_more mark_view (mark (g.viewed h)) s.pending v in grind (arith, common_steps)
   ])
   grows_evidence Finalization h =
       let f = view_of g.viewed (cond (ltb (finalized s) (g.viewed h)) (Some h) s.finalization) in
-      let higher : finalized s ≤ f = cond_both (ltb (finalized s) (g.viewed h)) (Some h) s.finalization (λ o. finalized s ≤ view_of g.viewed o) (λ t. omega (arith, ltb-true (finalized s) (g.viewed h) t)) (λ _. omega arith) in
+      let higher : finalized s ≤ f = search rules in
       grows_if L s _ higher (elim [
         | ask.Nullification ↦ λ v past. stays_covered g.viewed L v s.nullifications _ (λ u c t. kept_holds g.viewed (λ w. ltb f (end L w)) s.nullifications u (covers_past L positive f s u v past c) t)
-        | ask.Notarization ↦ λ v past a. each_way L s (planned L (before_planning L Finalization h s)) v
-            (λ t. waits L s (planned L (before_planning L Finalization h s)) v (kept_holds mark_view (λ w. ltb f w) s.pending v (lt-ltb f v past) t))
-            (λ t. passes L s (planned L (before_planning L Finalization h s)) v (kept_holds g.viewed (λ w. ltb f w) s.certified v (lt-ltb f v past) t))
-            (λ t. fails L s (planned L (before_planning L Finalization h s)) v (kept_holds mark_view (λ w. ltb f w) s.failed v (lt-ltb f v past) t)) a
+        | ask.Notarization ↦ λ v past a.
+            let p = only_kept mark_view (λ w. ltb f w) s.pending v in
+            let d = only_kept g.viewed (λ w. ltb f w) s.certified v in
+            let n = only_kept mark_view (λ w. ltb f w) s.failed v in
+            grind (arith, common_steps)
       ])
 
   pub grows_passed : (h : R) → SettledOnlyGrows L s (planned L (passed L h s))
   unfolding planned passing certified_at raised
   grows_passed h = grows_if L s _ (omega arith) (elim [
     | ask.Nullification ↦ λ v past a. a
-    | ask.Notarization ↦ λ v past a. each_way L s (planned L (passed L h s)) v
-        (λ t. elim (cases_eq (g.viewed h) v) [
-          | inl e ↦ passes L s (planned L (passed L h s)) v (cond_both (ltb (finalized s) (g.viewed h)) (with_row g.viewed h s.certified) s.certified (λ rs. holds g.viewed v rs ≡ true) (λ b. subst (λ n. holds g.viewed n (with_row g.viewed h s.certified) ≡ true) e (ap is_some (with_row_has g.viewed h s.certified))) (λ b. absurd (omega (arith, ltb-false (finalized s) (g.viewed h) b, e, past))))
-          | inr n ↦ waits L s (planned L (passed L h s)) v (without_holds mark_view (g.viewed h) s.pending v n t)
-        ])
-        (λ t. passes L s (planned L (passed L h s)) v (grown_holds g.viewed (ltb (finalized s) (g.viewed h)) h s.certified v t))
-        (λ t. fails L s (planned L (passed L h s)) v t) a
+    | ask.Notarization ↦ λ v past a.
+        let p = one_less mark_view (g.viewed h) s.pending v in
+        let d = one_more g.viewed h s.certified v in
+        grind (arith, common_steps)
   ])
 
   pub grows_failed : (u : ℕ) → SettledOnlyGrows L s (failing L u (judged L u s))
   unfolding failing failed_at
-  grows_failed u =
-      let marked : (v : ℕ) → finalized s < v → u ≡ v → holds mark_view v (cond (ltb (finalized s) u) (with_row mark_view (mark u) s.failed) s.failed) ≡ true = λ v past e. cond_both (ltb (finalized s) u) (with_row mark_view (mark u) s.failed) s.failed (λ rs. holds mark_view v rs ≡ true) (λ b. subst (λ n. holds mark_view n (with_row mark_view (mark u) s.failed) ≡ true) e (ap is_some (with_row_has mark_view (mark u) s.failed))) (λ b. absurd (omega (arith, ltb-false (finalized s) u b, e, past))) in
-      grows_if L s _ (omega arith) (elim [
-        | ask.Nullification ↦ λ v past a. a
-        | ask.Notarization ↦ λ v past a. each_way L s (failing L u (judged L u s)) v
-            (λ t. elim (cases_eq u v) [ inl e ↦ fails L s (failing L u (judged L u s)) v (marked v past e) | inr n ↦ waits L s (failing L u (judged L u s)) v (without_holds mark_view u s.pending v n t) ])
-            (λ t. elim (cases_eq u v) [ inl e ↦ fails L s (failing L u (judged L u s)) v (marked v past e) | inr n ↦ passes L s (failing L u (judged L u s)) v (without_holds g.viewed u s.certified v n t) ])
-            (λ t. fails L s (failing L u (judged L u s)) v (grown_holds mark_view (ltb (finalized s) u) (mark u) s.failed v t)) a
-      ])
+  grows_failed u = grows_if L s _ (omega arith) (elim [
+    | ask.Nullification ↦ λ v past a. a
+    | ask.Notarization ↦ λ v past a.
+        let p = one_less mark_view u s.pending v in
+        let d = one_less g.viewed u s.certified v in
+        let n = one_more mark_view (mark u) s.failed v in
+        grind (arith, common_steps)
+  ])
 
   pub grows_ended : SettledOnlyGrows L s (planned L (ended L s))
   unfolding planned
-  grows_ended = grows_if L s _ (omega arith) (elim [ ask.Nullification ↦ λ v past a. a | ask.Notarization ↦ λ v past a. a ])
+  grows_ended = grows_if L s _ (omega arith) (search rules)
 
   pub dropped_evidence : (k : Kind) (h : R) → DroppedOnlyWhenFinalized L s (planned L (before_planning L k h s))
   unfolding planned before_planning nullified notarized finalization_taken finalized_at pruned raised
-  dropped_evidence Nullification h u x found = inl (ap (lookup g.viewed u) (guarded (nullification_counts L (g.viewed h) s) (is_nullified (g.viewed h) s) s.nullifications (with_row g.viewed h s.nullifications)) ∙ grown_finds g.viewed (nullification_counts L (g.viewed h) s && not (is_nullified (g.viewed h) s)) h s.nullifications u x (λ t. not-true _ (and_parts (nullification_counts L (g.viewed h) s) (not (is_nullified (g.viewed h) s)) t).1) found)
+  dropped_evidence Nullification h u x found = inl (let e = one_more g.viewed h s.nullifications u in grind (arith, common_steps))
   dropped_evidence Notarization h u x found = inl found
   dropped_evidence Finalization h u x found =
       let f = view_of g.viewed (cond (ltb (finalized s) (g.viewed h)) (Some h) s.finalization) in

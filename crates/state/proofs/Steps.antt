@@ -4,6 +4,8 @@ use Rattle.std.proofs.lemmas.Bool.{cases_Bool, cond_both, ltb-true, lt-ltb}
 use Rattle.planning.specs.Gaps.{pulled}
 use Rattle.record.specs.declared.kind.Kind.{Kind}
 use Rattle.record.specs.declared.kind.Kind.TheVariants.{Notarization, Nullification, Finalization}
+use Rattle.std.proofs.lemmas.Grind.{common_steps}
+use Rattle.table.proofs.Laws.{one_more}
 use Rattle.table.specs.Rows.{holds, with_row}
 use Rattle.terms.specs.Terms.{end, is_start}
 use Rattle.terms.proofs.Laws.{to_the_end}
@@ -38,7 +40,7 @@ module _ {R : Type 0} {g : viewable.Ghosts R} (L : ℕ) (positive : 0 < L) where
     replay = refl;
     floor = omega arith;
     moved = record { grown = omega arith; raised = inl (refl, refl) };
-    covers = λ v above. stays_covered g.viewed L v s.nullifications _ (λ u c t. subst (λ rs. holds g.viewed u rs ≡ true) (sym (guarded (nullification_counts L (g.viewed h) s) (is_nullified (g.viewed h) s) s.nullifications (with_row g.viewed h s.nullifications))) (grown_holds g.viewed (nullification_counts L (g.viewed h) s && not (is_nullified (g.viewed h) s)) h s.nullifications u t));
+    covers = λ v above. stays_covered g.viewed L v s.nullifications _ (λ u c t. let e = one_more g.viewed h s.nullifications u in grind (arith, common_steps));
     first = λ on z. z;
   }
   step_evidence Notarization h s low = record {

@@ -1,4 +1,4 @@
-use Rattle.std.proofs.Common.{sym, refl, ap, subst}
+use Rattle.std.proofs.Common.{sym, subst, rules}
 use Rattle.terms.specs.Terms.{views}
 use Rattle.store.specs.Steps.{replayed_effects}
 use Rattle.state.specs.Laws.{Promises, EveryGapAsked}
@@ -26,7 +26,7 @@ returns g c =
     record {
       values = turned.is;
       effects = c.clear.ensures.listed_from _ x0 x1 c.replayed.new.effects c.clear.ensures.entries c.clear.ensures.list added;
-      fixed = record { term = ap views turned.kept.length; epoch = turned.kept.epoch; fits = refl };
-      promises = subst (λ t. Promises L (held s) t (replayed_effects L (held s))) (sym turned.is) (marker_promises L positive (held s) (lawful_of s) (rises_of s) few);
+      fixed = search rules;
+      promises = rw turned.is (marker_promises L positive (held s) (lawful_of s) (rises_of s) few);
       every_gap_asked = subst (λ t. EveryGapAsked L (held s) t (replayed_effects L (held s))) (sym turned.is) (marker_every L positive (held s) (lawful_of s) (rises_of s) few);
     }

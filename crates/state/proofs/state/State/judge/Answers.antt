@@ -1,4 +1,4 @@
-use Rattle.std.proofs.Common.{sym, refl, ap, subst, arith}
+use Rattle.std.proofs.Common.{arith, rules}
 use Rattle.terms.specs.Terms.{views}
 use Rattle.store.specs.Steps.{certified_effects}
 use Rattle.state.specs.Laws.{Promises}
@@ -32,6 +32,6 @@ returns g c =
     record {
       values = turned.is;
       effects = c.clear.ensures.listed_from _ x0 x1 c.certified.new.effects c.clear.ensures.entries c.clear.ensures.list added;
-      fixed = record { term = ap views turned.kept.length; epoch = turned.kept.epoch; fits = refl };
-      promises = subst (λ t. Promises L (held s) t (certified_effects L b h (held s))) (sym turned.is) (verdict_promises L positive (held s) (lawful_of s) (rises_of s) b h fine.0 fine.1);
+      fixed = search rules;
+      promises = rw turned.is (verdict_promises L positive (held s) (lawful_of s) (rises_of s) b h fine.0 fine.1);
     }

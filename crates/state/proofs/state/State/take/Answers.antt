@@ -1,4 +1,4 @@
-use Rattle.std.proofs.Common.{sym, refl, ap, subst, arith}
+use Rattle.std.proofs.Common.{arith, rules}
 use Rattle.terms.specs.Terms.{views}
 use Rattle.store.specs.Steps.{updated_effects}
 use Rattle.state.specs.Laws.{Promises, NotarizationSettlesNoNullification}
@@ -32,7 +32,7 @@ returns g c =
     record {
       values = turned.is;
       effects = c.clear.ensures.listed_from _ x0 x1 c.updated.new.effects c.clear.ensures.entries c.clear.ensures.list added;
-      fixed = record { term = ap views turned.kept.length; epoch = turned.kept.epoch; fits = refl };
-      promises = subst (λ t. Promises L (held s) t (updated_effects L k h (held s))) (sym turned.is) (evidence_promises L positive (held s) (lawful_of s) (rises_of s) k h fine);
-      notarization_settles_no_nullification = subst (λ t. NotarizationSettlesNoNullification L (held s) t k) (sym turned.is) (evidence_settles L positive (held s) (lawful_of s) (rises_of s) k h fine);
+      fixed = search rules;
+      promises = rw turned.is (evidence_promises L positive (held s) (lawful_of s) (rises_of s) k h fine);
+      notarization_settles_no_nullification = rw turned.is (evidence_settles L positive (held s) (lawful_of s) (rises_of s) k h fine);
     }
