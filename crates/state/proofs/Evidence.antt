@@ -1,8 +1,8 @@
 -- What evidence, a verdict and the marker leave: a lawful state, and the promises kept.
-use Rattle.std.proofs.Common.{◌≡◌, ℕ, ◌+◌, ◌^◌, ◌<◌, ◌≤◌, max, Bool, true, false, not, ◌&&◌, ◌||◌, ltb, leb, ◌∷◌, map, length, Ok, sym, refl, ap, ◌∙◌, subst, inl, inr, arith, rules}
+use Rattle.std.proofs.Common.{◌≡◌, ℕ, ◌+◌, ◌^◌, ◌<◌, ◌≤◌, max, Bool, true, false, not, ◌||◌, ◌∷◌, map, length, Ok, sym, refl, ap, ◌∙◌, subst, inl, inr, arith}
 use Rattle.std.proofs.lemmas.List.Filters.{length-filter_both}
 use Rattle.std.proofs.lemmas.List.{length-append, length-map}
-use Rattle.std.proofs.lemmas.Bool.{true≢false, both_ways, cases_Bool, cases_lt, and_cases, lt-ltb, ltb-false, leb-false, not_from_false}
+use Rattle.std.proofs.lemmas.Bool.{true≢false, both_ways, cases_Bool}
 use Rattle.std.proofs.lemmas.Grind.{common_steps}
 use Rattle.planning.specs.Gaps.{among, plan_start, gaps, landing}
 use Rattle.planning.proofs.Cursors.{cursor_lands}
@@ -11,30 +11,20 @@ use Rattle.record.specs.declared.kind.Kind.{Kind}
 use Rattle.record.specs.declared.kind.Kind.TheVariants.{Notarization, Nullification, Finalization}
 use Rattle.views.specs.declared.Viewable as viewable
 use Rattle.store.specs.Values.{Values, mark_view, is_covered, gaps_of, unplanned}
-use Rattle.store.specs.Room.{row_due, rows_held, Room, verdict_due, verdict_rows, VerdictRoom}
+use Rattle.store.specs.Room.{Room, VerdictRoom}
 use Rattle.store.specs.Steps.{settles, failed_fetch, taken_effects, seen, nullified, notarized, finalized_at, pruned, raised, finalization_taken, before_planning, planned, planned_effects, updated, updated_effects, raised_effects, judged, certified_at, passing, passed, failed_at, failing, failing_effects, certified, certified_effects, ended, replayed, replayed_effects, is_bare, failed_bare}
-use Rattle.state.specs.Answers.{Answer, refused_if, gaps_over, evidence_answer, is_notarization, verdict_answer, marker_answer}
+use Rattle.state.specs.Answers.{gaps_over, evidence_answer, verdict_answer, marker_answer}
 use Rattle.state.specs.Lawful.{Sound, Lawful}
 use Rattle.state.specs.Laws.{fetched, Promises, NoNullificationSettled, NotarizationSettlesNoNullification, EveryGapAsked}
-use Rattle.state.specs.declared.fault.Fault.{Fault}
-use Rattle.state.specs.declared.fault.Fault.TheVariants.{NotANotarization}
 use Rattle.state.proofs.Fetches.{fetched_append, fetched_after, taken_none, raised_none, failing_none, planned_fetches, none_failed}
 use Rattle.state.proofs.Moves.{Step, no_more_gaps, planned_after, no_gap_unasked, tail_asked, gaps_do_not_grow, planned_few}
 use Rattle.state.proofs.Settles.{grows_evidence, grows_passed, grows_failed, grows_ended, dropped_evidence, dropped_passed, dropped_failed, dropped_ended, no_nullification_settled}
 use Rattle.state.proofs.Sounds.{Rises, sound_evidence, sound_passed, sound_failed, sound_planned, sound_ended}
 use Rattle.state.proofs.Steps.{step_evidence, step_passed, step_ended}
 
--- a call that is not refused has passed the test, and the later ones
-pub not_refused : (b : Bool) (f : Fault) (later : Answer) → refused_if b f later ≡ Ok tt → (b ≡ false) × (later ≡ Ok tt)
-not_refused true f later e = let z : ◌≡◌ {A = ℕ} 0 1 = cc in absurd (omega arith)
-not_refused false f later e = (refl, e)
-
 or_none : (b : Bool) → (b || false) ≡ b
 or_none true = refl
 or_none false = refl
-
-room_from : (b : Bool) (n : ℕ) → (b && leb 128 n) ≡ false → b ≡ true → n < 128
-room_from b n e t = elim (and_cases b (leb 128 n) e) [ inl f ↦ absurd (both_ways b f t) | inr f ↦ leb-false 128 n f ]
 
 module _ {R : Type 0} {g : viewable.Ghosts R} (L : ℕ) where
   pub record Tested (k : Kind) (h : R) (s : Values R g) : Type 0 where
@@ -49,13 +39,6 @@ module _ {R : Type 0} {g : viewable.Ghosts R} (L : ℕ) where
   pub verdict_tested : (b : Bool) (v : ℕ) (s : Values R g) → verdict_answer L b Notarization v s ≡ Ok tt → (v ≤ 2 ^ 62) × VerdictRoom L b v s
   unfolding verdict_answer
   verdict_tested b v s e = grind (arith, common_steps)
-
-  -- only a notarization passes
-  pub only_notarization : (b : Bool) (k : Kind) (v : ℕ) (s : Values R g) → verdict_answer L b k v s ≡ Ok tt → verdict_answer L b Notarization v s ≡ Ok tt
-  unfolding verdict_answer
-  only_notarization b Notarization v s e = e
-  only_notarization b Nullification v s e = cc
-  only_notarization b Finalization v s e = cc
 
   pub marker_tested : (s : Values R g) → marker_answer L s ≡ Ok tt → length (gaps_of L s) ≤ 128
   unfolding marker_answer
@@ -78,16 +61,11 @@ module _ {R : Type 0} {g : viewable.Ghosts R} (L : ℕ) (positive : 0 < L) (s : 
     pub evidence_few : (before_planning L k h s).replaying ≡ false → length (gaps_of L (before_planning L k h s)) ≤ 128
     evidence_few over =
         let was : s.replaying ≡ false = sym t_step.replay ∙ over in
-        elim (cases_lt s.current (g.viewed h)) [
-          | inl above ↦ elim (and_cases (not s.replaying) _ fine.gaps) [
-            | inl f ↦ absurd (both_ways (not s.replaying) f (not_from_false s.replaying was))
-            | inr both ↦ elim (and_cases (ltb s.current (g.viewed h)) _ both) [
-              | inl f ↦ absurd (both_ways (ltb s.current (g.viewed h)) f (lt-ltb s.current (g.viewed h) above))
-              | inr few ↦ ltb-false 128 (length (gaps_of L (before_planning L k h s))) few
-            ]
-          ]
-          | inr below ↦ omega (arith, ok.planned.gaps_few was, no_more_gaps L positive s (before_planning L k h s) t_step (seen_highest L k h s ∙ omega arith))
-        ]
+        let more = no_more_gaps L positive s (before_planning L k h s) t_step in
+        let top = seen_highest L k h s in
+        let few = ok.planned.gaps_few was in
+        let tested = fine.gaps in
+        grind (arith, common_steps)
 
     pub evidence_lawful : Lawful L (updated L k h s)
     evidence_lawful = record {

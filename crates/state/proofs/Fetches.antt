@@ -1,16 +1,12 @@
 -- Which gaps a list of effects fetches.
-use Rattle.std.proofs.Common.{◌≡◌, ℕ, Bool, true, false, cond, ◌||◌, eqb, ltb, List, [], ◌∷◌, ◌++◌, map, sym, refl, ap, ◌∙◌, rules}
-use Rattle.std.proofs.lemmas.Bool.{cond_both, or_from}
+use Rattle.std.proofs.Common.{◌≡◌, ℕ, Bool, true, false, ◌||◌, eqb, List, [], ◌∷◌, ◌++◌, map, sym, refl, ap, ◌∙◌, rules}
 use Rattle.effects.specs.declared.effect.Effect.{Effect}
-use Rattle.effects.specs.declared.effect.Effect.TheVariants.{Settled, Raised}
-use Rattle.effects.specs.declared.effect.Kind.TheVariants as ask
 use Rattle.planning.specs.Gaps.{among, missing}
 use Rattle.record.specs.declared.kind.Kind.{Kind}
 use Rattle.record.specs.declared.kind.Kind.TheVariants.{Notarization, Nullification, Finalization}
-use Rattle.terms.specs.Terms.{end}
 use Rattle.views.specs.declared.Viewable as viewable
 use Rattle.store.specs.Values.{Values, unplanned}
-use Rattle.store.specs.Steps.{settles, failed_fetch, nullification_counts, nullified_effects, notarization_counts, notarized_effects, finalization_effects, raised_effects, taken_effects, planned_effects, is_bare, failing_effects}
+use Rattle.store.specs.Steps.{failed_fetch, nullified_effects, notarized_effects, finalization_effects, raised_effects, taken_effects, planned_effects, failing_effects}
 use Rattle.state.specs.Laws.{fetches_gap, fetched}
 
 or_assoc : (x y z : Bool) → ((x || y) || z) ≡ (x || (y || z))
@@ -32,10 +28,6 @@ module _ (v : ℕ) where
   pub none_failed : (vs : List ℕ) → fetched v (map failed_fetch vs) ≡ false
   none_failed [] = refl
   none_failed (x ∷ xs) = none_failed xs
-
-  -- an effect that is no fetch of a gap, due or not
-  if_due_none : (b : Bool) (e : Effect) → fetches_gap v e ≡ false → fetched v (cond b (e ∷ []) []) ≡ false
-  if_due_none b e none = cond_both b (e ∷ []) [] (λ es. fetched v es ≡ false) (λ _. or_from _ _ none refl) (λ _. refl)
 
   module _ {R : Type 0} {g : viewable.Ghosts R} (L : ℕ) where
     pub taken_none : (k : Kind) (h : R) (s : Values R g) → fetched v (taken_effects L k h s) ≡ false

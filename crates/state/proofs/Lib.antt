@@ -3,7 +3,6 @@ pub mod Covers
 pub mod Evidence
 pub mod Facts
 pub mod Fetches
-pub mod Growing
 pub mod Moves
 pub mod Settles
 pub mod Sounds

@@ -1,22 +1,19 @@
 -- What is settled stays settled, and what is dropped is finalized.
-use Rattle.std.proofs.Common.{◌≡◌, ℕ, ◌<◌, ◌≤◌, true, cond, not, ◌&&◌, ◌||◌, ltb, leb, is_some, Some, sym, refl, ap, ◌∙◌, subst, inl, inr, arith, rules}
-use Rattle.std.proofs.lemmas.Bool.{cases_Bool, cases_lt, cases_eq, cond_both, ltb-true, ltb-false, lt-ltb, leb-true, le-leb, or_cases, or_left, or_right, and_parts, not-true}
+use Rattle.std.proofs.Common.{◌≡◌, ℕ, ◌<◌, ◌≤◌, true, cond, ltb, Some, refl, inl, arith, rules}
 use Rattle.effects.specs.declared.effect.Kind.{Kind as Ask}
 use Rattle.effects.specs.declared.effect.Kind.TheVariants as ask
 use Rattle.record.specs.declared.kind.Kind.{Kind}
 use Rattle.record.specs.declared.kind.Kind.TheVariants.{Notarization, Nullification, Finalization}
 use Rattle.std.proofs.lemmas.Grind.{common_steps}
 use Rattle.table.proofs.Laws.{one_more, one_less, only_kept}
-use Rattle.table.specs.Rows.{lookup, holds, with_row}
 use Rattle.terms.specs.Terms.{end}
 use Rattle.views.specs.declared.Viewable as viewable
-use Rattle.store.specs.Values.{Values, mark, mark_view, view_of, finalized, is_nullified, is_pending, is_certified, has_failed}
-use Rattle.store.specs.Steps.{nullification_counts, nullified, notarization_counts, notarized, finalized_at, pruned, raised, finalization_taken, before_planning, planned, judged, certified_at, passing, passed, failed_at, failing, ended}
+use Rattle.store.specs.Values.{Values, mark, mark_view, view_of, finalized}
+use Rattle.store.specs.Steps.{nullified, notarized, finalized_at, pruned, raised, finalization_taken, before_planning, planned, judged, certified_at, passing, passed, failed_at, failing, ended}
 use Rattle.state.specs.Lawful.{Sound}
 use Rattle.state.specs.Settled.{answered, settled}
 use Rattle.state.specs.Laws.{SettledOnlyGrows, DroppedOnlyWhenFinalized, NoNullificationSettled}
 use Rattle.state.proofs.Covers.{stays_covered}
-use Rattle.state.proofs.Growing.{guarded, grown_holds, grown_finds, with_row_has, kept_holds, kept_finds, without_holds}
 use Rattle.state.proofs.Steps.{covers_past}
 
 module _ {R : Type 0} {g : viewable.Ghosts R} (L : ℕ) (s t : Values R g) (higher : finalized s ≤ finalized t) where
@@ -40,7 +37,7 @@ module _ {R : Type 0} {g : viewable.Ghosts R} (L : ℕ) (positive : 0 < L) (s : 
       let f = view_of g.viewed (cond (ltb (finalized s) (g.viewed h)) (Some h) s.finalization) in
       let higher : finalized s ≤ f = search rules in
       grows_if L s _ higher (elim [
-        | ask.Nullification ↦ λ v past. stays_covered g.viewed L v s.nullifications _ (λ u c t. kept_holds g.viewed (λ w. ltb f (end L w)) s.nullifications u (covers_past L positive f s u v past c) t)
+        | ask.Nullification ↦ λ v past. stays_covered g.viewed L v s.nullifications _ (λ u c t. let e = only_kept g.viewed (λ w. ltb f (end L w)) s.nullifications u in let k = covers_past L positive f s u v past c in grind (arith, common_steps))
         | ask.Notarization ↦ λ v past a.
             let p = only_kept mark_view (λ w. ltb f w) s.pending v in
             let d = only_kept g.viewed (λ w. ltb f w) s.certified v in
@@ -79,10 +76,8 @@ module _ {R : Type 0} {g : viewable.Ghosts R} (L : ℕ) (positive : 0 < L) (s : 
   dropped_evidence Notarization h u x found = inl found
   dropped_evidence Finalization h u x found =
       let f = view_of g.viewed (cond (ltb (finalized s) (g.viewed h)) (Some h) s.finalization) in
-      elim (cases_Bool (ltb f (end L u))) [
-        | inl t ↦ inl (kept_finds g.viewed (λ w. ltb f (end L w)) s.nullifications u x t found)
-        | inr b ↦ inr (ltb-false f (end L u) b)
-      ]
+      let e = only_kept g.viewed (λ w. ltb f (end L w)) s.nullifications u in
+      grind (arith, common_steps)
 
   pub dropped_passed : (h : R) → DroppedOnlyWhenFinalized L s (planned L (passed L h s))
   unfolding planned passing certified_at raised

@@ -1,18 +1,16 @@
 -- Each step keeps a state sound.
-use Rattle.std.proofs.Common.{◌≡◌, ℕ, ◌^◌, ◌<◌, ◌≤◌, max, true, false, cond, not, ◌&&◌, ltb, length, Some, sym, subst, inl, inr, arith, rules}
-use Rattle.std.proofs.lemmas.Bool.{cond_both, ltb-true, ltb-false, and_parts, and_from, not_from_false}
+use Rattle.std.proofs.Common.{◌≡◌, ℕ, ◌^◌, ◌<◌, ◌≤◌, true, false, cond, ltb, length, Some, arith, rules}
 use Rattle.record.specs.declared.kind.Kind.{Kind}
 use Rattle.record.specs.declared.kind.Kind.TheVariants.{Notarization, Nullification, Finalization}
 use Rattle.std.proofs.lemmas.Grind.{common_steps}
 use Rattle.table.proofs.Laws.{one_more, counted, one_less, only_kept, no_more_kept, no_more_without}
-use Rattle.table.specs.Rows.{Ascending, holds, with_row}
+use Rattle.table.specs.Rows.{Ascending}
 use Rattle.terms.specs.Terms.{end}
 use Rattle.views.specs.declared.Viewable as viewable
 use Rattle.store.specs.Values.{Values, mark, mark_view, view_of, finalized, is_nullified, is_pending, is_certified, has_failed}
 use Rattle.store.specs.Room.{Room, VerdictRoom}
-use Rattle.store.specs.Steps.{first_kept, nullification_counts, nullified, notarization_counts, awaiting, notarized, finalized_at, pruned, raised, finalization_taken, seen, before_planning, planned, judged, certified_at, passing, passed, failed_at, failing, ended}
+use Rattle.store.specs.Steps.{nullified, notarized, finalized_at, pruned, raised, finalization_taken, seen, before_planning, planned, judged, certified_at, passing, passed, failed_at, failing, ended}
 use Rattle.state.specs.Lawful.{Sound}
-use Rattle.state.proofs.Growing.{guarded, grown, grown_from, grown_few, kept_from, kept_few, without_from, without_few}
 
 -- the views of each list rise
 pub record Rises {R : Type 0} {g : viewable.Ghosts R} (s : Values R g) : Type 0 where

@@ -1,20 +1,18 @@
 -- How each call moves floor, cursor and covers.
-use Rattle.std.proofs.Common.{◌≡◌, ℕ, ◌+◌, ◌<◌, ◌≤◌, min, true, false, cond, not, ◌&&◌, ltb, ◌⊎◌, Some, sym, refl, subst, inl, inr, arith, rules}
-use Rattle.std.proofs.lemmas.Bool.{cases_Bool, cond_both, ltb-true, lt-ltb}
+use Rattle.std.proofs.Common.{◌≡◌, ℕ, ◌<◌, ◌≤◌, true, false, cond, ltb, ◌⊎◌, Some, sym, refl, inl, arith, rules}
+use Rattle.std.proofs.lemmas.Bool.{lt-ltb}
 use Rattle.planning.specs.Gaps.{pulled}
 use Rattle.record.specs.declared.kind.Kind.{Kind}
 use Rattle.record.specs.declared.kind.Kind.TheVariants.{Notarization, Nullification, Finalization}
 use Rattle.std.proofs.lemmas.Grind.{common_steps}
-use Rattle.table.proofs.Laws.{one_more}
-use Rattle.table.specs.Rows.{holds, with_row}
+use Rattle.table.proofs.Laws.{one_more, only_kept}
 use Rattle.terms.specs.Terms.{end, is_start}
 use Rattle.terms.proofs.Laws.{to_the_end}
 use Rattle.views.specs.declared.Viewable as viewable
-use Rattle.store.specs.Values.{Values, view_of, finalized, is_nullified}
-use Rattle.store.specs.Steps.{nullification_counts, nullified, notarized, finalized_at, pruned, raised, finalization_taken, before_planning, certified_at, passing, passed, ended}
+use Rattle.store.specs.Values.{Values, view_of, finalized}
+use Rattle.store.specs.Steps.{nullified, notarized, finalized_at, pruned, raised, finalization_taken, before_planning, certified_at, passing, passed, ended}
 use Rattle.state.proofs.Covers.{stays_covered}
 use Rattle.state.proofs.Moves.{Step}
-use Rattle.state.proofs.Growing.{guarded, grown_holds, kept_holds}
 
 -- a floor that rises only to what is above it
 module _ (L F cursor v : ℕ) where
@@ -56,7 +54,7 @@ module _ {R : Type 0} {g : viewable.Ghosts R} (L : ℕ) (positive : 0 < L) where
         replay = refl;
         floor = raised_up L s.floor s.cursor (g.viewed h);
         moved = record { grown = omega arith; raised = raised_moved L s.floor s.cursor (g.viewed h) };
-        covers = λ v above. stays_covered g.viewed L v s.nullifications _ (λ u c t. kept_holds g.viewed (λ w. ltb f (end L w)) s.nullifications u (covers_past f s u v (omega (arith, low, above)) c) t);
+        covers = λ v above. stays_covered g.viewed L v s.nullifications _ (λ u c t. let e = only_kept g.viewed (λ w. ltb f (end L w)) s.nullifications u in let k = covers_past f s u v (omega (arith, low, above)) c in grind (arith, common_steps));
         first = λ on z. raised_first L s.floor s.cursor (g.viewed h) z;
       }
 

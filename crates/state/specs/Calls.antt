@@ -1,5 +1,5 @@
 -- What a call leaves: of the state, and of the host's list of effects.
-use Rattle.std.specs.Prelude.{◌≡◌, ℕ, Bool}
+use Rattle.std.specs.Prelude.{◌≡◌, Bool}
 use Rattle.effects.specs.declared.listed.Effects.{Effects}
 use Rattle.effects.specs.Lists.{Listed}
 use Rattle.record.specs.declared.kind.Kind.{Kind}

@@ -1,7 +1,6 @@
 use Rattle.std.proofs.Common.{sym, subst, rules}
-use Rattle.terms.specs.Terms.{views}
-use Rattle.store.specs.Steps.{replayed_effects}
-use Rattle.state.specs.Laws.{Promises, EveryGapAsked}
+use Rattle.store.specs.Steps.{replayed, replayed_effects}
+use Rattle.state.specs.Laws.{EveryGapAsked}
 use Rattle.state.specs.States.{held, term}
 use Rattle.state.proofs.Evidence.{marker_tested, marker_lawful, marker_room, marker_promises, marker_every}
 use Rattle.state.proofs.Facts.{rises_of, lawful_of, low_of, facts_after, cleared_room}
@@ -11,7 +10,7 @@ pub invariant_of-self : goal.invariant_of-self
 invariant_of-self g c =
     let s = c.args.self.now in
     let turned = c.replayed.ensures.turned (low_of s) in
-    facts_after s c.replayed.new.self _ turned (marker_lawful (term s) s.store.term_length.positive (held s) (lawful_of s) (rises_of s) (marker_tested (term s) (held s) c.requires.tested))
+    facts_after s c.replayed.new.self (replayed (term s) (held s)) turned (marker_lawful (term s) s.store.term_length.positive (held s) (lawful_of s) (rises_of s) (marker_tested (term s) (held s) c.requires.tested))
 
 pub returns : goal.returns
 returns g c =
@@ -25,7 +24,7 @@ returns g c =
     let added = c.replayed.ensures.added (low_of s) (cleared_room x0 x1 _ c.clear.ensures.entries c.clear.ensures.list (marker_room L positive (held s) (lawful_of s) (rises_of s) few) c.requires.room) in
     record {
       values = turned.is;
-      effects = c.clear.ensures.listed_from _ x0 x1 c.replayed.new.effects c.clear.ensures.entries c.clear.ensures.list added;
+      effects = c.clear.ensures.listed_from (replayed_effects L (held s)) x0 x1 c.replayed.new.effects c.clear.ensures.entries c.clear.ensures.list added;
       fixed = search rules;
       promises = rw turned.is (marker_promises L positive (held s) (lawful_of s) (rises_of s) few);
       every_gap_asked = subst (λ t. EveryGapAsked L (held s) t (replayed_effects L (held s))) (sym turned.is) (marker_every L positive (held s) (lawful_of s) (rises_of s) few);

@@ -1,7 +1,5 @@
 use Rattle.std.proofs.Common.{arith, rules}
-use Rattle.terms.specs.Terms.{views}
-use Rattle.store.specs.Steps.{certified_effects}
-use Rattle.state.specs.Laws.{Promises}
+use Rattle.store.specs.Steps.{certified, certified_effects}
 use Rattle.state.specs.States.{held, term}
 use Rattle.state.proofs.Evidence.{verdict_tested, verdict_lawful, verdict_promises, passed_room}
 use Rattle.state.proofs.Facts.{rises_of, roomy_of, lawful_of, low_of, facts_after, cleared_room}
@@ -14,7 +12,7 @@ invariant_of-self g c =
     let h = c.args.held in
     let fine = verdict_tested (term s) b (g.R.Viewable.viewed h) (held s) c.requires.tested in
     let turned = c.certified.ensures.turned (roomy_of s c.requires.fit) (low_of s) fine.0 fine.1 in
-    facts_after s c.certified.new.self _ turned (verdict_lawful (term s) s.store.term_length.positive (held s) (lawful_of s) (rises_of s) b h fine.0 fine.1)
+    facts_after s c.certified.new.self (certified (term s) b h (held s)) turned (verdict_lawful (term s) s.store.term_length.positive (held s) (lawful_of s) (rises_of s) b h fine.0 fine.1)
 
 pub returns : goal.returns
 returns g c =
@@ -31,7 +29,7 @@ returns g c =
     let added = c.certified.ensures.added (roomy_of s c.requires.fit) (low_of s) fine.0 fine.1 (cleared_room x0 x1 _ c.clear.ensures.entries c.clear.ensures.list (omega (arith, few)) c.requires.room) in
     record {
       values = turned.is;
-      effects = c.clear.ensures.listed_from _ x0 x1 c.certified.new.effects c.clear.ensures.entries c.clear.ensures.list added;
+      effects = c.clear.ensures.listed_from (certified_effects L b h (held s)) x0 x1 c.certified.new.effects c.clear.ensures.entries c.clear.ensures.list added;
       fixed = search rules;
       promises = rw turned.is (verdict_promises L positive (held s) (lawful_of s) (rises_of s) b h fine.0 fine.1);
     }
