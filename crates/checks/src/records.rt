@@ -19,10 +19,7 @@ fn notarization() -> Certificate {
 
 /// The number of the refusal of bytes, or 0.
 fn refusal_number(bytes: &[u8]) -> u8 {
-    match Certificate::read(bytes) {
-        Ok(_) => 0,
-        Err(fault) => Refusal::from(fault).number,
-    }
+    Certificate::read(bytes).map_or_else(|fault| Refusal::from(fault).number, |_| 0)
 }
 
 #[test]

@@ -60,10 +60,7 @@ fn refused(rt: HostRuntime) {
 
 /// The number of the refusal of a view's term, or 0.
 fn refusal_number(length: u32, view: u64) -> u8 {
-    match numbers(length, view) {
-        Ok(_) => 0,
-        Err(fault) => Refusal::from(fault).number,
-    }
+    numbers(length, view).map_or_else(|fault| Refusal::from(fault).number, |_| 0)
 }
 
 #[test]

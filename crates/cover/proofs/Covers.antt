@@ -1,21 +1,29 @@
 -- From the nearest row to the one that covers.
-use Rattle.std.proofs.Common.{◌≡◌, ℕ, true, false, eqb, List, [], ◌∷◌, is_some, Some, None, Option, sym, refl, ap, ◌∙◌, inl, inr}
+use Rattle.std.proofs.Common.{◌≡◌, ℕ, true, false, eqb, List, [], ◌∷◌, is_some, Some, None, Option, sym, refl, ap, ◌∙◌, subst, inl, inr}
 use Rattle.std.proofs.lemmas.Bool.{both_ways, true≢false, cases_Bool, cases_lt, cond-true, cond-false, eq-eqb, eqb-true, or_left, or_right, or_cases}
 use Rattle.table.specs.Laws.{Nearest}
 use Rattle.table.specs.Rows.{lookup, holds}
 use Rattle.terms.specs.Laws.{ToTheEnd, CoversBetween}
 use Rattle.terms.specs.Terms.{covering}
-use Rattle.cover.specs.Covers.{covered, HighestCover, BySomeRow}
+use Rattle.cover.specs.Covers.{if_covering, covered, HighestCover, BySomeRow}
 
 module _ {R : Type 0} (at : R → ℕ) (L v : ℕ) (rs : List R) (ends : ToTheEnd L) where
-  pub nothing_below : Nearest at v rs None → HighestCover at L v rs None
+  nothing_below : Nearest at v rs None → HighestCover at L v rs None
   nothing_below near u t = near u ((ends u v).0 t).0
 
-  pub this_covers : (r : R) → Nearest at v rs (Some r) → covering L (at r) v ≡ true → HighestCover at L v rs (Some r)
+  this_covers : (r : R) → Nearest at v rs (Some r) → covering L (at r) v ≡ true → HighestCover at L v rs (Some r)
   this_covers r near t = (t, near.1, λ u h s. near.2 u h ((ends u v).0 s).0)
 
-  pub another_term : CoversBetween L → (r : R) → Nearest at v rs (Some r) → covering L (at r) v ≡ false → HighestCover at L v rs None
+  another_term : CoversBetween L → (r : R) → Nearest at v rs (Some r) → covering L (at r) v ≡ false → HighestCover at L v rs None
   another_term between r near f u t = elim (cases_lt (at r) u) [ inl h ↦ near.2 u h ((ends u v).0 t).0 | inr h ↦ absurd (both_ways _ f (between u (at r) v h near.0 t)) ]
+
+  -- the nearest row is the highest that covers, or none is
+  pub highest_covers : CoversBetween L → (near : Option R) → Nearest at v rs near → HighestCover at L v rs (if_covering at L v near)
+  highest_covers between None near = nothing_below near
+  highest_covers between (Some r) near = elim (cases_Bool (covering L (at r) v)) [
+    | inl t ↦ subst (HighestCover at L v rs) (sym (cond-true (covering L (at r) v) (Some r) None t)) (this_covers r near t)
+    | inr f ↦ subst (HighestCover at L v rs) (sym (cond-false (covering L (at r) v) (Some r) None f)) (another_term between r near f)
+  ]
 
 module _ {R : Type 0} (at : R → ℕ) (L v : ℕ) where
   some_row : (rs : List R) → covered at L v rs ≡ true → (u : ℕ) × (covering L u v ≡ true) × (holds at u rs ≡ true)

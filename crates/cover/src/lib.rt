@@ -11,7 +11,6 @@ use terms::TermLength;
 use views::{View, Viewable};
 
 /// The highest nullification that covers `view`, if there is one.
-#[tactic(auto, using(crate::proofs::Covers::nothing_below, crate::proofs::Covers::this_covers, crate::proofs::Covers::another_term, crate::proofs::Covers::by_some_row, crate::proofs::Covers::covered_if_found, terms::proofs::Laws::to_the_end), unfolding(crate::specs::Covers::cover))]
 pub fn covering<R: Copy + Viewable>(
     nullifications: &Table<R>,
     length: TermLength,
@@ -22,10 +21,7 @@ pub fn covering<R: Copy + Viewable>(
     ensures covered { is_some result ≡ covered R.Viewable.viewed (views_of length) view (entries nullifications.now) }
     ensures by_some_row { (rs : List R) → BySomeRow R.Viewable.viewed (views_of length) view rs }
 {
-    let row = nullifications.last_to(view)?;
-    if length.covers(row.view(), view) {
-        Some(row)
-    } else {
-        None
-    }
+    nullifications
+        .last_to(view)
+        .filter(|row| length.covers(row.view(), view))
 }

@@ -17,24 +17,13 @@ pub struct Admitted {
     pub seats: u64,
 }
 
-/// The lowest `count` bits.
-fn ones(count: u64) -> u64
-    requires { count ≤ 64 }
-    ensures { result + 1 ≡ 2 ^ count }
-{
-    let mut mask: u64 = 0;
-    for i in 0..count {
-        mask = mask * 2 + 1;
-    }
-    mask
-}
-
 /// The mask of the first `quorum` of so many seats, if that is a quorum that there can be.
+#[tactic(auto, using(crate::proofs::Masks::lowest))]
 fn quorum_mask(seats: u64, quorum: u64) -> Option<u64>
     ensures { MatchOption result (allowed seats quorum ≡ false) (λ m. (allowed seats quorum ≡ true) × (m + 1 ≡ 2 ^ quorum)) }
 {
     if 1 <= quorum && quorum <= seats && seats <= 64 {
-        Some(ones(quorum))
+        Some(u64::MAX >> (64 - quorum))
     } else {
         None
     }
@@ -45,15 +34,13 @@ pub fn admit(setup: Setup) -> Result<Admitted, Refusal>
     ensures { MatchResult result (λ a. (0 < setup.term_length) × (views_of a.term_length ≡ setup.term_length) × (a.epoch ≡ setup.epoch) × (allowed setup.seats setup.quorum ≡ true) × (a.seats + 1 ≡ 2 ^ setup.quorum)) (λ f. ((setup.term_length ≡ 0) × (f ≡ refusal_of ZeroLength)) ⊎ ((0 < setup.term_length) × (allowed setup.seats setup.quorum ≡ false) × (f ≡ no_quorum))) }
 {
     let term_length = TermLength::new(setup.term_length)?;
-    match quorum_mask(setup.seats, setup.quorum) {
-        Some(seats) => Ok(Admitted {
-            term_length,
-            epoch: setup.epoch,
-            seats,
-        }),
-        None => Err(Refusal {
-            number: 15,
-            layer: Layer::Verifier,
-        }),
-    }
+    let seats = quorum_mask(setup.seats, setup.quorum).ok_or(Refusal {
+        number: 15,
+        layer: Layer::Verifier,
+    })?;
+    Ok(Admitted {
+        term_length,
+        epoch: setup.epoch,
+        seats,
+    })
 }

@@ -1,7 +1,7 @@
 -- Where planning lands, and that a cursor loses no anchor.
 use Rattle.std.proofs.Common.{◌≡◌, ℕ, ◌+◌, ◌<◌, ◌≤◌, min, true, ltb, ◌⊎◌, sym, ap, ◌∙◌, subst, inl, inr, arith}
 use Rattle.std.proofs.lemmas.Bool.{both_ways, cases_lt, cases_Bool, lt-ltb, le-ltb, cond-true, cond-false}
-use Rattle.terms.specs.Terms.{next, is_start}
+use Rattle.terms.specs.Terms.{is_start}
 use Rattle.terms.proofs.Laws.{least_next}
 use Rattle.planning.specs.Gaps.{plan_start, first_start, landing, pulled}
 use Rattle.planning.specs.Laws.{Anchor, Moved, CursorLands, NoAnchorSkipped, OnlyAnchors}
@@ -31,18 +31,6 @@ module _ (L : ℕ) (positive : 0 < L) where
   pub lands_here : (low high : ℕ) → high ≤ low → landing L low high ≡ low
   unfolding landing
   lands_here low high h = cond-false (ltb low high) (first_start L high) low (le-ltb low high h)
-
-  -- a step to the next term start lands at the same view
-  pub lands_on : (low high : ℕ) → low < high → landing L (next L low) high ≡ landing L low high
-  lands_on low high h = elim (cases_lt (next L low) high) [
-    | inl within ↦ lands_past (next L low) high within ∙ sym (lands_past low high h)
-    | inr past ↦ let least = least_next L positive low in
-        let f = first_start_is high in
-        let back = f.2 (next L low) past least.0 in
-        let on = least.2 (first_start L high) (omega (arith, f.0)) f.1 in
-        let e : next L low ≡ first_start L high = omega arith in
-        lands_here (next L low) high past ∙ e ∙ sym (lands_past low high h)
-  ]
 
   module _ (floor current cursor floor' current' cursor' : ℕ) where
     -- planning begins past the view after the floor

@@ -3,7 +3,7 @@
 
 ghost use Rattle.std.specs.Prelude.{◌≡◌, ℕ, ◌+◌, ◌^◌, ◌<◌, ◌≤◌, map, length, IfOk, MatchResult, nat_lt};
 ghost use Rattle.effects.specs.Lists.{entries as listed, places, Added, Filled};
-ghost use Rattle.terms.specs.Terms.{views as views_of, next};
+ghost use Rattle.terms.specs.Terms.{views as views_of};
 ghost use Rattle.terms.specs.declared.fault.Fault.TheVariants.{ViewTooHigh};
 ghost use Rattle.planning.specs.Gaps.{missing, landing};
 ghost use Rattle.planning.specs.Left.{gaps_in};

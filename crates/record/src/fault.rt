@@ -3,17 +3,17 @@ ghost use Rattle.record.specs.Faults.{refusal_of};
 
 use refusals::{Layer, Refusal};
 
-/// Why bytes are no record, in the order of the tests.
+/// Why bytes are no record, in the order of the tests. Its number is that of the refusal.
 #[derive(Clone, Copy, Debug, PartialEq, Eq)]
 pub enum Fault {
     /// There are not 96 bytes.
-    WrongLength,
+    WrongLength = 1,
     /// The first byte names no kind.
-    UnknownKind,
+    UnknownKind = 2,
     /// One of the seven bytes after the kind is not zero.
-    ReservedNotZero,
+    ReservedNotZero = 3,
     /// A nullification names a parent or a payload.
-    NullificationNotBlank,
+    NullificationNotBlank = 4,
 }
 
 /// The number and the layer that a host is told.
@@ -21,14 +21,8 @@ impl From<Fault> for Refusal {
     ghost from_gives = { λ fault r. r ≡ refusal_of fault };
 
     fn from(fault: Fault) -> Refusal {
-        let number = match fault {
-            Fault::WrongLength => 1,
-            Fault::UnknownKind => 2,
-            Fault::ReservedNotZero => 3,
-            Fault::NullificationNotBlank => 4,
-        };
         Refusal {
-            number,
+            number: fault as u8,
             layer: Layer::Record,
         }
     }

@@ -2,7 +2,7 @@ ghost use Rattle.std.specs.Prelude.{◌≡◌};
 ghost use Rattle.record_text.specs.Options.{kind_named, option_of, past, options_of};
 
 use record::Kind;
-use words::{Problem, after, decimal, end, is, strip, word};
+use words::{Problem, after, decimal, end, strip, word};
 
 /// What a record's text may add to its kind and view.
 #[derive(Clone, Copy, Debug)]

@@ -1,6 +1,5 @@
 ghost use Rattle.std.specs.Prelude.{◌≡◌, Some, MatchResult};
 ghost use Rattle.script.specs.declared.answer.Answer.TheVariants.{Refused};
-ghost use Rattle.terms.specs.Faults.{refusal_of};
 ghost use Rattle.script.specs.Answers.{text_of, term_answer, covers_answer, read_answer};
 
 use record::{Certificate, Header};

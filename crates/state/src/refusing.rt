@@ -1,7 +1,9 @@
-ghost use Rattle.std.specs.Prelude.{◌≡◌, ◌^◌, ◌≤◌, true, false, ◌&&◌, length, Ok as Fine, nat_le, nat_lt};
+ghost use Rattle.std.specs.Prelude.{◌≡◌, ◌^◌, ◌≤◌, true, false, not, ◌&&◌, length, Ok as Fine, nat_le, nat_lt};
 ghost use Rattle.effects.specs.Lists.{places};
 ghost use Rattle.planning.specs.Gaps.{gaps};
 ghost use Rattle.record.specs.declared.kind.Kind.TheVariants.{Nullification as Nulled, Notarization as Noted};
+ghost use Rattle.table.specs.Rows.{holds};
+ghost use Rattle.table.specs.Tables.{entries};
 ghost use Rattle.store.specs.Values.{is_covered};
 ghost use Rattle.store.specs.Room.{row_due, rows_held, verdict_due, verdict_rows};
 ghost use Rattle.state.specs.Answers.{refused_if, too_few, floor_after, gaps_over, evidence_answer, verdict_answer, marker_answer};
@@ -12,8 +14,16 @@ use crate::{EFFECTS, Fault, GAPS, ROWS, State};
 use effects::Effects;
 use planning::exceeds;
 use record::Kind;
+use table::Table;
 use terms::LAST_VIEW;
 use views::{View, Viewable};
+
+/// Whether a table has no row of `view`, and as many rows as it may.
+fn has_no_room<X: Copy + Viewable>(table: &Table<X>, view: View) -> bool
+    ensures { result ≡ (not (holds X.Viewable.viewed view (entries table.now)) && nat_le 128 (length (entries table.now))) }
+{
+    !table.contains(view) && table.len() >= ROWS
+}
 
 impl<'a, R: Copy + Viewable> State<'a, R> {
     /// Refuses where the host lent too few places, for effects or for the state.
@@ -32,9 +42,7 @@ impl<'a, R: Copy + Viewable> State<'a, R> {
         ensures { result ≡ (row_due (term self.now) Nulled view (values self.now) && nat_le 128 (rows_held (term self.now) Nulled (values self.now))) }
     {
         let end = self.store.term_length.term_end(view).unwrap();
-        end > self.store.last_finalized()
-            && !self.store.nullifications.contains(view)
-            && self.store.nullifications.len() >= ROWS
+        end > self.store.last_finalized() && has_no_room(&self.store.nullifications, view)
     }
 
     /// Whether a notarization needs a row and finds no room.
@@ -48,8 +56,7 @@ impl<'a, R: Copy + Viewable> State<'a, R> {
             return false;
         }
         !self.store.certified_notarizations.contains(view)
-            && !self.store.pending_notarizations.contains(view)
-            && self.store.pending_notarizations.len() >= ROWS
+            && has_no_room(&self.store.pending_notarizations, view)
     }
 
     /// Whether evidence needs a row and finds no room.
@@ -132,11 +139,9 @@ impl<'a, R: Copy + Viewable> State<'a, R> {
             return false;
         }
         if success {
-            !self.store.certified_notarizations.contains(view)
-                && self.store.certified_notarizations.len() >= ROWS
+            has_no_room(&self.store.certified_notarizations, view)
         } else {
-            !self.store.uncertifiable_notarizations.contains(view)
-                && self.store.uncertifiable_notarizations.len() >= ROWS
+            has_no_room(&self.store.uncertifiable_notarizations, view)
         }
     }
 

@@ -1,7 +1,10 @@
 -- The place of a view among rows that ascend.
-use Rattle.std.proofs.Common.{◌≡◌, ℕ, zero, suc, ◌+◌, ◌-◌, ◌<◌, ◌≤◌, Bool, true, false, not, eqb, ltb, leb, List, [], ◌∷◌, ◌++◌, length, get_or, slice_get, take, drop, set, is_some, Some, None, filter, sym, refl, ap, ◌∙◌, subst, inl, inr, arith}
+use Rattle.std.proofs.Common.{◌≡◌, ℕ, zero, suc, ◌+◌, ◌-◌, ◌<◌, ◌≤◌, Bool, true, false, not, eqb, ltb, leb, List, [], ◌∷◌, ◌++◌, length, get_or, slice_get, take, drop, set, is_some, Some, None, filter, Result, Ok, Err, MatchResult, sym, refl, ap, ◌∙◌, subst, inl, inr, arith}
 use Rattle.std.specs.List.{copy_within, insert, remove}
-use Rattle.std.specs.List.Sorted.{IsPartitionPoint, IsPartitionedBy}
+use Rattle.std.specs.List.Sorted.{IsSearchInRange, IsBinarySearchResult, IsNonDecreasingBy, IsPartitionPoint, IsPartitionedBy}
+use Rattle.std.specs.Ordering.{nat_cmp, ordering_index}
+use Rattle.std.proofs.lemmas.Cmp.{ranked}
+use Rattle.std.proofs.lemmas.Bool.Decides.{nat_tests}
 use Rattle.std.proofs.lemmas.List.{get_or-map, get_or_default, length-take-le, set_split, take-take}
 use Rattle.std.proofs.lemmas.Bool.{cases_Bool, cases_eq, cases_lt, both_ways, cond-true, cond-false, eq-eqb, ne_eqb, lt-ltb, le-ltb, ltb-true, le-leb, lt-leb, leb-true, leb-false, ltb-false, not-true, not-false, not_from_true, not_from_false, or_left, or_right, or_from}
 use Rattle.table.proofs.Shifts.{take_set_any, moved_above, cut_is, cut_off_is, put_is}
@@ -200,3 +203,35 @@ partitioned at p law rs asc i j d le h t = elim (cases_Bool (p (at (get_or rs i 
       absurd (both_ways (p (at (get_or rs j d))) (not-true (p (at (get_or rs j d))) t) (law (at (get_or rs i d)) (at (get_or rs j d)) (omega (arith, rises at rs asc i j le h)) k))
   | inr f ↦ not_from_false (p (at (get_or rs i d))) f
 ]
+
+-- what a binary search by the views finds, for rows that ascend
+module _ {R : Type 0} (at : R → ℕ) (rs : List R) (asc : Ascending at rs) (v : ℕ) where
+  comparisons_rise : IsNonDecreasingBy (λ r. ordering_index (nat_cmp (at r) v)) rs
+  comparisons_rise i j d le h =
+      let u = view_of at rs i d (omega arith) in
+      let w = view_of at rs j d h in
+      let up : at (get_or rs i d) ≤ at (get_or rs j d) = omega (arith, rises at rs asc i j le h) in
+      grind (arith, nat_tests)
+
+  pub searched : (r : Result ℕ ℕ) → IsSearchInRange r (length rs) → IsBinarySearchResult (λ x. nat_cmp (at x) v) rs r → MatchResult r (Here at v rs) (Gap at v rs)
+  searched (Ok i) within equal =
+      let is = seen at rs i within (λ u. u ≡ v) (λ d. ranked (at (get_or rs i d)) v _ (sym (equal d))) in
+      record {
+        parts = record {
+          within = omega (arith, within);
+          before = λ k h. lt-leb v (get_or (views at rs) k 0) (omega (arith, is, asc k i h within));
+          after = λ k h l. le-leb v (get_or (views at rs) k 0) (omega (arith, is, rises at rs asc i k h l));
+        };
+        within = within;
+        is = is;
+      }
+  searched (Err i) within parted =
+      let p = parted comparisons_rise in
+      record {
+        parts = record {
+          within = within;
+          before = λ k h. seen at rs k (omega arith) (λ u. leb v u ≡ false) (λ d. lt-leb v (at (get_or rs k d)) (ranked (at (get_or rs k d)) v _ (sym (p.0 k d (omega arith) h))));
+          after = λ k h l. seen at rs k l (λ u. leb v u ≡ true) (λ d. le-leb v (at (get_or rs k d)) (omega (arith, ranked (at (get_or rs k d)) v _ (sym (p.1 k d h l)))));
+        };
+        none = λ l e. seen at rs i l (λ u. u ≡ v → ⊥) (λ d same. omega (arith, ranked (at (get_or rs i d)) v _ (sym (p.1 i d (omega arith) l)))) e;
+      }

@@ -2,7 +2,6 @@
 use Rattle.std.specs.Prelude.{ℕ, List, length, take}
 use Rattle.views.specs.declared.Viewable as viewable
 use Rattle.table.specs.declared.lent.Table.{Table}
-use Rattle.table.specs.Rows.{Ascending}
 
 module _ {R : Type 0} {g : viewable.Ghosts R} where
   abbrev pub entries : Table R g → List R
@@ -10,7 +9,3 @@ module _ {R : Type 0} {g : viewable.Ghosts R} where
 
   abbrev pub capacity : Table R g → ℕ
   capacity t = length t.rows.now
-
--- its views rise; every table has this as a fact of its type
-abbrev pub Rises : {R : Type 0} {g : viewable.Ghosts R} → (R → ℕ) → Table R g → Type 0
-Rises at t = Ascending at (entries t)

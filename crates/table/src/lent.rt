@@ -2,7 +2,7 @@ ghost use Rattle.std.specs.Prelude.{◌≡◌, ◌<◌, ◌≤◌, [], length, t
 ghost use Rattle.table.specs.Rows.{Ascending, lookup, holds, highest, without, with_row, has_room, kept, Parts, Here, Gap};
 ghost use Rattle.table.specs.Laws.{NothingFound, OfItsView, FoundItself, Nearest, OneMore, Counted, OneLess, OnlyKept, NoMore};
 
-use crate::{From, Order, Past};
+use crate::{Order, Past};
 use views::{View, Viewable};
 
 /// Rows in ascending order of their views, in a slice that the host lends. Places past the rows are free.
@@ -56,11 +56,8 @@ impl<'a, R: Copy + Viewable> Table<'a, R> {
     fn find(&self, view: View) -> Result<usize, usize>
         ensures { MatchResult result (Here R.Viewable.viewed view (entries self.now)) (Gap R.Viewable.viewed view (entries self.now)) }
     {
-        let at = self.first_kept(&From(view));
-        match self.as_slice().get(at) {
-            Some(row) if row.view() == view => Ok(at),
-            _ => Err(at),
-        }
+        self.as_slice()
+            .binary_search_by_key(&view, |row| row.view())
     }
 
     /// The row of `view`, if there is one.
@@ -69,10 +66,8 @@ impl<'a, R: Copy + Viewable> Table<'a, R> {
         ensures value { result ≡ lookup R.Viewable.viewed view (entries self.now) }
         ensures of_its_view { OfItsView R.Viewable.viewed view result }
     {
-        match self.find(view) {
-            Ok(at) => Some(self.as_slice()[at]),
-            Err(_) => None,
-        }
+        let at = self.find(view).ok()?;
+        self.as_slice().get(at).copied()
     }
 
     /// Whether there is a row of `view`.
@@ -148,8 +143,8 @@ impl<'a, R: Copy + Viewable> Table<'a, R> {
         ensures cap { capacity self.new ≡ capacity self.old }
     {
         let n = self.first_kept(order);
-        let len = self.len;
-        self.len = len - n;
-        self.rows.copy_within(n..len, 0);
+        let end = self.len;
+        self.len = end - n;
+        self.rows.copy_within(n..end, 0);
     }
 }

@@ -3,13 +3,13 @@ ghost use Rattle.terms.specs.Faults.{refusal_of};
 
 use refusals::{Layer, Refusal};
 
-/// Why a term rule is not told.
+/// Why a term rule is not told. Its number is that of the refusal.
 #[derive(Clone, Copy, Debug, PartialEq, Eq)]
 pub enum Fault {
     /// A term has no views.
-    ZeroLength,
+    ZeroLength = 9,
     /// The view is above `LAST_VIEW`.
-    ViewTooHigh,
+    ViewTooHigh = 5,
 }
 
 /// The number and the layer that a host is told.
@@ -17,12 +17,8 @@ impl From<Fault> for Refusal {
     ghost from_gives = { λ fault r. r ≡ refusal_of fault };
 
     fn from(fault: Fault) -> Refusal {
-        let number = match fault {
-            Fault::ZeroLength => 9,
-            Fault::ViewTooHigh => 5,
-        };
         Refusal {
-            number,
+            number: fault as u8,
             layer: Layer::Terms,
         }
     }
