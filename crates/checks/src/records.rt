@@ -1,5 +1,8 @@
+ghost use Rattle.std.specs.Prelude.{◌≡◌, Decides};
+ghost use Rattle.std.specs.Str.{bytes_eq};
+
+use crate::numbers::refusal_number;
 use record::{Certificate, Digest, Fault, LENGTH, Proof, Proposal, Round};
-use refusals::Refusal;
 use std::test::Fail;
 
 /// A notarization whose fields all differ.
@@ -15,11 +18,6 @@ fn notarization() -> Certificate {
         },
         proof: Proof([11; 32]),
     }
-}
-
-/// The number of the refusal of bytes, or 0.
-fn refusal_number(bytes: &[u8]) -> u8 {
-    Certificate::read(bytes).map_or_else(|fault| Refusal::from(fault).number, |_| 0)
 }
 
 #[test]
@@ -45,7 +43,7 @@ fn changed(at: usize, byte: u8) -> u8 {
     if at < LENGTH {
         bytes[at] = byte;
     }
-    refusal_number(&bytes)
+    refusal_number(Certificate::read(&bytes))
 }
 
 #[test]
@@ -71,9 +69,35 @@ fn each_test_at_its_edge(rt: HostRuntime) {
 
 #[test]
 fn lengths_and_the_order_of_tests(rt: HostRuntime) {
-    assert_eq!(rt; refusal_number(b""), 1);
-    assert_eq!(rt; refusal_number(&[9; 95]), 1);
-    assert_eq!(rt; refusal_number(&[9; 97]), 1);
-    assert_eq!(rt; refusal_number(&[9; 96]), 2);
-    assert_eq!(rt; refusal_number(&[2; 96]), 3);
+    assert_eq!(rt; refusal_number(Certificate::read(b"")), 1);
+    assert_eq!(rt; refusal_number(Certificate::read(&[9; 95])), 1);
+    assert_eq!(rt; refusal_number(Certificate::read(&[9; 97])), 1);
+    assert_eq!(rt; refusal_number(Certificate::read(&[9; 96])), 2);
+    assert_eq!(rt; refusal_number(Certificate::read(&[2; 96])), 3);
+}
+
+/// `==` on digests, with both promises: which bytes are compared, and that it tells whether they are equal.
+fn same_digest(one: &Digest, other: &Digest) -> bool
+    ensures value { result ≡ bytes_eq one.now.0 other.now.0 }
+    ensures decides { Decides result (one.now ≡ other.now) }
+{
+    *one == *other
+}
+
+/// The same, on proofs.
+fn same_proof(one: &Proof, other: &Proof) -> bool
+    ensures value { result ≡ bytes_eq one.now.0 other.now.0 }
+    ensures decides { Decides result (one.now ≡ other.now) }
+{
+    *one == *other
+}
+
+#[test]
+fn equal_exactly_if_the_bytes_are(rt: HostRuntime) {
+    let mut last = [5; 32];
+    last[31] = 6;
+    assert!(rt; same_digest(&Digest([5; 32]), &Digest([5; 32])));
+    assert!(rt; !same_digest(&Digest([5; 32]), &Digest(last)));
+    assert!(rt; same_proof(&Proof(last), &Proof(last)));
+    assert!(rt; !same_proof(&Proof([5; 32]), &Proof(last)));
 }

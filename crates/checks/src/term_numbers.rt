@@ -1,4 +1,4 @@
-use refusals::Refusal;
+use crate::numbers::refusal_number;
 use std::test::Fail;
 use terms::{Fault, TermLength};
 
@@ -51,16 +51,11 @@ fn longest_and_shortest_terms(rt: HostRuntime) -> Result<(), Fail> {
 
 #[test]
 fn refused(rt: HostRuntime) {
-    assert_eq!(rt; refusal_number(0, 1), 9);
-    assert_eq!(rt; refusal_number(0, u64::MAX), 9);
-    assert_eq!(rt; refusal_number(1, 4611686018427387904), 0);
-    assert_eq!(rt; refusal_number(1, 4611686018427387905), 5);
-    assert_eq!(rt; refusal_number(4294967295, u64::MAX), 5);
-}
-
-/// The number of the refusal of a view's term, or 0.
-fn refusal_number(length: u32, view: u64) -> u8 {
-    numbers(length, view).map_or_else(|fault| Refusal::from(fault).number, |_| 0)
+    assert_eq!(rt; refusal_number(numbers(0, 1)), 9);
+    assert_eq!(rt; refusal_number(numbers(0, u64::MAX)), 9);
+    assert_eq!(rt; refusal_number(numbers(1, 4611686018427387904)), 0);
+    assert_eq!(rt; refusal_number(numbers(1, 4611686018427387905)), 5);
+    assert_eq!(rt; refusal_number(numbers(4294967295, u64::MAX)), 5);
 }
 
 #[test]

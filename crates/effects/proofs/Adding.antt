@@ -4,7 +4,7 @@ use Rattle.std.proofs.lemmas.List.{append_assoc, length-append, length-take, tak
 use Rattle.std.proofs.lemmas.Grind.{common_steps}
 use Rattle.std.proofs.lemmas.Bool.{cases_lt}
 use Rattle.effects.specs.declared.listed.Effects.{Effects}
-use Rattle.effects.specs.Lists.{entries, places, NothingAdded, AddedBoth, NothingFilled, FilledBoth, AllFilled}
+use Rattle.effects.specs.Lists.{entries, places, NothingAdded, AddedBoth, FilledBoth, AllFilled}
 
 pub nothing_added : NothingAdded
 nothing_added e = search rules
@@ -31,9 +31,6 @@ within e = omega (arith, length-take e.len e.list.now)
 
 pub all_filled : AllFilled
 all_filled es before after h p = grind (arith, common_steps)
-
-pub nothing_filled : NothingFilled
-nothing_filled e = grind (arith, common_steps)
 
 -- what was cut off once is cut off where more comes
 cut_twice : {X : Type 0} (n : ℕ) (xs ys : List X) → take n (take n xs ++ ys) ≡ take n (xs ++ ys)

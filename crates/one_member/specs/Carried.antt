@@ -6,7 +6,7 @@ use Rattle.orders.specs.Orders.{Meant, update, judge, end, ask, serve, tell}
 use Rattle.record.specs.Certificates.{kind_in, proposal_in}
 use Rattle.record.specs.Format.{reading}
 use Rattle.record.specs.declared.certificate.Certificate.{Certificate}
-use Rattle.views.specs.declared.Viewable as viewable
+use Rattle.record.specs.contracts.stored.CertificateViewable.TheImpl.{ghosts as by_view}
 use Rattle.one_member.specs.declared.carrying.Answered.{Answered}
 use Rattle.one_member.specs.declared.carrying.Answered.TheVariants.{Done, Refused, Yes, No, Nothing, Served, Told}
 use Rattle.state.specs.Answers.{Answer, refused_if, too_few, if_read, evidence_answer, verdict_answer, marker_answer}
@@ -31,7 +31,7 @@ found_of b = cond b Served Nothing
 abbrev pub view_in : Certificate → ℕ
 view_in c = (proposal_in c).round.view
 
-module _ {g : viewable.Ghosts Certificate} (a : Answered) (s t : State Certificate g) (e e' : Effects) (p p' : Certificate) where
+module _ (a : Answered) (s t : State Certificate by_view) (e e' : Effects) (p p' : Certificate) where
   -- a call that records something: the state's own answer and outcome, and the place for a record stays
   pub record Recorded (answer : Answer) (Outcome : Type 0) : Type 0 where
     pub result : Answer
@@ -53,7 +53,7 @@ module _ {g : viewable.Ghosts Certificate} (a : Answered) (s t : State Certifica
     pub state : t ≡ s
     pub effects : e' ≡ e
 
-abbrev pub Carried : {g : viewable.Ghosts Certificate} → Meant → Answered → State Certificate g → State Certificate g → Effects → Effects → Certificate → Certificate → Type 0
+abbrev pub Carried : Meant → Answered → State Certificate by_view → State Certificate by_view → Effects → Effects → Certificate → Certificate → Type 0
 Carried (update bs) a s t e e' p p' = Recorded a s t e e' p p' (if_read (reading bs) (λ c. evidence_answer (term s) (kind_in c) c (held s))) ((c : Certificate) × (reading bs ≡ Ok c) × Evidence s t e e' (kind_in c) c)
 Carried (judge b bs) a s t e e' p p' = Recorded a s t e e' p p' (if_read (reading bs) (λ c. verdict_answer (term s) b (kind_in c) (view_in c) (held s))) ((c : Certificate) × (reading bs ≡ Ok c) × Verdict s t e e' b c)
 Carried end a s t e e' p p' = Recorded a s t e e' p p' (marker_answer (term s) (held s)) (Marker s t e e')

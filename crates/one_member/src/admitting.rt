@@ -1,4 +1,4 @@
-ghost use Rattle.std.specs.Prelude.{◌≡◌, ◌+◌, ◌-◌, ◌^◌, ◌<◌, ◌≤◌, true, false, ◌⊎◌, MatchOption, MatchResult};
+ghost use Rattle.std.specs.Prelude.{◌≡◌, ◌+◌, ◌-◌, ◌^◌, ◌<◌, ◌≤◌, true, false, ◌⊎◌, MatchResult};
 ghost use Rattle.terms.specs.Faults.{refusal_of};
 ghost use Rattle.terms.specs.Terms.{views as views_of};
 ghost use Rattle.terms.specs.declared.fault.Fault.TheVariants.{ZeroLength};
@@ -17,15 +17,31 @@ pub struct Admitted {
     pub seats: u64,
 }
 
+/// So many seats have no such quorum.
+#[derive(Clone, Copy, Debug, PartialEq, Eq)]
+pub struct NoQuorum;
+
+/// The number and the layer that a host is told.
+impl From<NoQuorum> for Refusal {
+    ghost from_gives = { λ _ r. r ≡ no_quorum };
+
+    fn from(_: NoQuorum) -> Refusal {
+        Refusal {
+            number: 15,
+            layer: Layer::Verifier,
+        }
+    }
+}
+
 /// The mask of the first `quorum` of so many seats, if that is a quorum that there can be.
 #[tactic(auto, using(crate::proofs::Masks::lowest))]
-fn quorum_mask(seats: u64, quorum: u64) -> Option<u64>
-    ensures { MatchOption result (allowed seats quorum ≡ false) (λ m. (allowed seats quorum ≡ true) × (m + 1 ≡ 2 ^ quorum)) }
+fn quorum_mask(seats: u64, quorum: u64) -> Result<u64, NoQuorum>
+    ensures { MatchResult result (λ m. (allowed seats quorum ≡ true) × (m + 1 ≡ 2 ^ quorum)) (λ _. allowed seats quorum ≡ false) }
 {
     if 1 <= quorum && quorum <= seats && seats <= 64 {
-        Some(u64::MAX >> (64 - quorum))
+        Ok(u64::MAX >> (64 - quorum))
     } else {
-        None
+        Err(NoQuorum)
     }
 }
 
@@ -34,10 +50,7 @@ pub fn admit(setup: Setup) -> Result<Admitted, Refusal>
     ensures { MatchResult result (λ a. (0 < setup.term_length) × (views_of a.term_length ≡ setup.term_length) × (a.epoch ≡ setup.epoch) × (allowed setup.seats setup.quorum ≡ true) × (a.seats + 1 ≡ 2 ^ setup.quorum)) (λ f. ((setup.term_length ≡ 0) × (f ≡ refusal_of ZeroLength)) ⊎ ((0 < setup.term_length) × (allowed setup.seats setup.quorum ≡ false) × (f ≡ no_quorum))) }
 {
     let term_length = TermLength::new(setup.term_length)?;
-    let seats = quorum_mask(setup.seats, setup.quorum).ok_or(Refusal {
-        number: 15,
-        layer: Layer::Verifier,
-    })?;
+    let seats = quorum_mask(setup.seats, setup.quorum)?;
     Ok(Admitted {
         term_length,
         epoch: setup.epoch,

@@ -4,5 +4,5 @@
 pub mod admitting;
 pub mod carrying;
 
-pub use admitting::{Admitted, admit};
+pub use admitting::{Admitted, NoQuorum, admit};
 pub use carrying::{Answered, carry_out};

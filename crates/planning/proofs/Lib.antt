@@ -1,4 +1,3 @@
 pub mod Gaps
 pub mod Cursors
-pub mod Fetching
 pub mod Walking

@@ -83,6 +83,7 @@ fn parse(bytes: &[u8]) -> Result<Certificate, Fault>
 
 impl Certificate {
     /// The certificate in a record's bytes, or the first test that they fail.
+    #[tactic(auto, using(crate::proofs::Laws::read_formed, crate::proofs::Laws::read_placed, crate::proofs::Laws::read_written))]
     pub fn read(bytes: &[u8]) -> Result<Certificate, Fault>
         ensures value { result ≡ reading bytes.now }
         ensures formed { Decides (is_ok result) (Formed bytes.now) }

@@ -1,8 +1,10 @@
 -- What a store needs, and what a call leaves.
-use Rattle.std.specs.Prelude.{◌≡◌, ℕ, ◌+◌, ◌^◌, ◌<◌, ◌≤◌, length as count}
+use Rattle.std.specs.Prelude.{◌≡◌, ℕ, ◌+◌, ◌^◌, ◌<◌, ◌≤◌, false, length as count}
 use Rattle.views.specs.declared.Viewable as viewable
 use Rattle.slot.specs.Slots.{places}
-use Rattle.table.specs.Tables.{capacity}
+use Rattle.table.specs.declared.lent.Table.{Table}
+use Rattle.table.specs.Rows.{holds}
+use Rattle.table.specs.Tables.{entries, capacity}
 use Rattle.terms.specs.Terms.{views}
 use Rattle.store.specs.declared.store.Store.{Store}
 use Rattle.effects.specs.declared.listed.Effects.{Effects}
@@ -20,6 +22,10 @@ pub record Roomy {R : Type 0} {g : viewable.Ghosts R} (s : Store R g) : Type 0 w
   pub pending : 128 ≤ capacity s.pending_notarizations
   pub certified : 128 ≤ capacity s.certified_notarizations
   pub failed : 128 ≤ capacity s.uncertifiable_notarizations
+
+-- a table has a place for a row of this view, or holds one already
+abbrev pub RoomFor : {R : Type 0} {g : viewable.Ghosts R} → ℕ → Table R g → Type 0
+RoomFor {R} {g} v t = holds g.viewed v (entries t) ≡ false → count (entries t) < capacity t
 
 -- the places of the tables stay, and so do term length and epoch
 pub record Kept {R : Type 0} {g : viewable.Ghosts R} (before after : Store R g) : Type 0 where

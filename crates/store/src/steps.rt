@@ -1,11 +1,10 @@
-ghost use Rattle.std.specs.Prelude.{◌≡◌, ℕ, ◌+◌, ◌^◌, ◌<◌, ◌≤◌, true, false, length};
+ghost use Rattle.std.specs.Prelude.{◌≡◌, ℕ, ◌+◌, ◌^◌, ◌<◌, ◌≤◌, true, false};
 ghost use Rattle.effects.specs.Lists.{Added};
 ghost use Rattle.planning.specs.Gaps.{pulled};
 ghost use Rattle.slot.specs.Slots.{places as lent};
-ghost use Rattle.table.specs.Rows.{holds};
 ghost use Rattle.table.specs.Tables.{entries, capacity};
-ghost use Rattle.store.specs.Values.{values, with_pending, finalized, is_nullified, is_pending, is_certified, has_failed};
-ghost use Rattle.store.specs.Ready.{length_of, Turned, HasRoom};
+ghost use Rattle.store.specs.Values.{values, with_pending, finalized, is_certified};
+ghost use Rattle.store.specs.Ready.{length_of, RoomFor, Turned, HasRoom};
 ghost use Rattle.store.specs.Steps.{first_kept, nullification_counts, nullified, nullified_effects, awaiting, notarization_counts, notarized, notarized_effects, finalized_at, pruned, raised, raised_effects, certified_at, failed_at};
 
 use crate::Store;
@@ -15,7 +14,7 @@ use views::{View, Viewable};
 
 /// Keeps a record, unless one of its view is kept.
 fn or_insert<R: Copy + Viewable>(rows: &mut Table<R>, held: R)
-    ensures rows { (holds R.Viewable.viewed (R.Viewable.viewed held) (entries rows.old) ≡ false → length (entries rows.old) < capacity rows.old) → entries rows.new ≡ first_kept R.Viewable.viewed held (entries rows.old) }
+    ensures rows { RoomFor (R.Viewable.viewed held) rows.old → entries rows.new ≡ first_kept R.Viewable.viewed held (entries rows.old) }
     ensures cap { capacity rows.new ≡ capacity rows.old }
 {
     if rows.contains(held.view()) {
@@ -28,7 +27,7 @@ impl<'a, R: Copy + Viewable> Store<'a, R> {
     /// Records a nullification, unless its term is finalized.
     #[tactic(auto, unfolding(crate::specs::Steps::nullified, crate::specs::Steps::nullified_effects))]
     pub(crate) fn nullify(&mut self, held: R, effects: &mut Effects)
-        ensures turned { R.Viewable.viewed held ≤ 2 ^ 62 → (nullification_counts (length_of self.old) (R.Viewable.viewed held) (values self.old) ≡ true → is_nullified (R.Viewable.viewed held) (values self.old) ≡ false → length (entries self.old.nullifications) < capacity self.old.nullifications) → Turned self.old self.new (nullified (length_of self.old) held (values self.old)) }
+        ensures turned { R.Viewable.viewed held ≤ 2 ^ 62 → (nullification_counts (length_of self.old) (R.Viewable.viewed held) (values self.old) ≡ true → RoomFor (R.Viewable.viewed held) self.old.nullifications) → Turned self.old self.new (nullified (length_of self.old) held (values self.old)) }
         ensures added { R.Viewable.viewed held ≤ 2 ^ 62 → HasRoom 1 effects.old → Added (nullified_effects (length_of self.old) (R.Viewable.viewed held) (values self.old)) effects.old effects.new }
     {
         let start = held.view();
@@ -48,7 +47,7 @@ impl<'a, R: Copy + Viewable> Store<'a, R> {
 
     /// Lets a notarization wait for its verdict, unless it passed.
     fn await_verdict(&mut self, view: View)
-        ensures { (is_certified view (values self.old) ≡ false → is_pending view (values self.old) ≡ false → length (entries self.old.pending_notarizations) < capacity self.old.pending_notarizations) → Turned self.old self.new (with_pending (awaiting (length_of self.old) view (values self.old)) (values self.old)) }
+        ensures { (is_certified view (values self.old) ≡ false → RoomFor view self.old.pending_notarizations) → Turned self.old self.new (with_pending (awaiting (length_of self.old) view (values self.old)) (values self.old)) }
     {
         if self.certified_notarizations.contains(view) {
             return;
@@ -59,7 +58,7 @@ impl<'a, R: Copy + Viewable> Store<'a, R> {
     /// Records a notarization above the finalized view, unless it failed.
     #[tactic(auto, unfolding(crate::specs::Steps::notarized, crate::specs::Steps::notarized_effects))]
     pub(crate) fn notarize(&mut self, view: View, effects: &mut Effects)
-        ensures turned { (notarization_counts (length_of self.old) view (values self.old) ≡ true → is_certified view (values self.old) ≡ false → is_pending view (values self.old) ≡ false → length (entries self.old.pending_notarizations) < capacity self.old.pending_notarizations) → Turned self.old self.new (notarized (length_of self.old) view (values self.old)) }
+        ensures turned { (notarization_counts (length_of self.old) view (values self.old) ≡ true → is_certified view (values self.old) ≡ false → RoomFor view self.old.pending_notarizations) → Turned self.old self.new (notarized (length_of self.old) view (values self.old)) }
         ensures added { HasRoom 1 effects.old → Added (notarized_effects (length_of self.old) view (values self.old)) effects.old effects.new }
     {
         if view <= self.last_finalized() {
@@ -131,7 +130,7 @@ impl<'a, R: Copy + Viewable> Store<'a, R> {
     /// Keeps a notarization that passed, above the finalized view.
     #[tactic(auto, unfolding(crate::specs::Steps::certified_at))]
     pub(crate) fn keep_certified(&mut self, held: R)
-        ensures { (finalized (values self.old) < R.Viewable.viewed held → is_certified (R.Viewable.viewed held) (values self.old) ≡ false → length (entries self.old.certified_notarizations) < capacity self.old.certified_notarizations) → Turned self.old self.new (certified_at (length_of self.old) held (values self.old)) }
+        ensures { (finalized (values self.old) < R.Viewable.viewed held → RoomFor (R.Viewable.viewed held) self.old.certified_notarizations) → Turned self.old self.new (certified_at (length_of self.old) held (values self.old)) }
     {
         if held.view() <= self.last_finalized() {
             return;
@@ -142,7 +141,7 @@ impl<'a, R: Copy + Viewable> Store<'a, R> {
     /// Marks a view above the finalized one as failed.
     #[tactic(auto, unfolding(crate::specs::Steps::failed_at))]
     pub(crate) fn mark_failed(&mut self, view: View)
-        ensures { (finalized (values self.old) < view → has_failed view (values self.old) ≡ false → length (entries self.old.uncertifiable_notarizations) < capacity self.old.uncertifiable_notarizations) → Turned self.old self.new (failed_at (length_of self.old) view (values self.old)) }
+        ensures { (finalized (values self.old) < view → RoomFor view self.old.uncertifiable_notarizations) → Turned self.old self.new (failed_at (length_of self.old) view (values self.old)) }
     {
         if view <= self.last_finalized() {
             return;

@@ -13,7 +13,8 @@ pub struct Memory<'a, R> {
     pub uncertifiable_notarizations: &'a mut [Mark],
 }
 
-/// What a member has recorded. Nothing is promised of the values: whoever keeps a store keeps its order.
+/// What a member has recorded. Each table keeps its rows in order of view; of the numbers nothing is promised: whoever
+/// keeps a store keeps them in step.
 #[derive(Drop)]
 pub struct Store<'a, R: Viewable> {
     /// How many views a term has.

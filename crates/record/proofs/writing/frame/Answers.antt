@@ -4,18 +4,9 @@ use Rattle.record.proofs.Frames.{assembled}
 use Rattle.record.proofs.Numbers.{length_bytes}
 use Rattle.record.proofs.writing.frame.Goals as goal
 
-pub returns : goal.returns
+pub returns-clause-value : goal.returns-clause-value
 unfolding framed
-returns c =
+returns-clause-value c =
     let payload : length c.args.proposal.now.payload.0 ≡ 32 = search rules in
     let proof : length c.args.proof.now.0 ≡ 32 = search rules in
-    record {
-      value = assembled _ _ _ _ _ _ _ _ _ _ _ _ c.from.ensures.0 (length_bytes 8 _) (length_bytes 8 _) (length_bytes 8 _) payload proof c.put_number.ensures.bytes c.put_number-2.ensures.bytes c.put_number-3.ensures.bytes c.put.ensures c.put-2.ensures;
-      sized = record {
-        epoch = c.put_number.ensures.fits;
-        view = c.put_number-2.ensures.fits;
-        parent = c.put_number-3.ensures.fits;
-        payload = payload;
-        proof = proof;
-      };
-    }
+    assembled _ _ _ _ _ _ _ _ _ _ _ _ c.from.ensures.0 (length_bytes 8 _) (length_bytes 8 _) (length_bytes 8 _) payload proof c.put_number.ensures.bytes c.put_number-2.ensures.bytes c.put_number-3.ensures.bytes c.put.ensures c.put-2.ensures

@@ -16,6 +16,3 @@ returns-in-settled c = rw (text_from_reads c.args.word.now (codes "settled") (se
 
 pub returns-in-produce : goal.returns-in-produce
 returns-in-produce c = rw (text_from_reads c.args.word.now (codes "produce") (search rules) (search rules)) (search rules)
-
-pub returns-in-state : goal.returns-in-state
-returns-in-state c = rw (text_from_reads c.args.word.now (codes "state") (search rules) (search rules)) (search rules)

@@ -25,8 +25,8 @@ loop-self-preserved g c =
     let t : covered g.R.Viewable.viewed (views s.term_length) s.anchor (entries s.nullifications.now) ≡ true = sym c.covering.ensures.covered ∙ c.is_none.ensures ∙ ap not c.if-is_none.false in
     sym (covered_left s.nullifications.now s.term_length s.anchor s.current c.following-self.result c.following-self.ensures c.loop-self-test.true t) ∙ c.loop-self.invariant
 
-pub returns : goal.returns
-returns g c =
+pub returns-clause-steps : goal.returns-clause-steps
+returns-clause-steps g c =
     let s = c.loop-self.self in
     let none = none_left s.nullifications.now s.term_length s.anchor s.current c.loop-self-test.false in
-    record { steps = (sym c.loop-self.invariant ∙ none, none); goes = record { on = λ _. tt; keeps = tt; rests = λ _. tt } }
+    (sym c.loop-self.invariant ∙ none, none)

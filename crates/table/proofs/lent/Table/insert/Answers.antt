@@ -1,4 +1,4 @@
-use Rattle.std.proofs.Common.{true, length, sym, ◌∙◌, subst, refl, arith}
+use Rattle.std.proofs.Common.{true, length, sym, ◌∙◌, subst, arith}
 use Rattle.std.proofs.lemmas.List.{length-set, length-take-le}
 use Rattle.table.specs.Rows.{Ascending, Here, Gap}
 use Rattle.table.specs.Laws.{OneMore, Counted}
@@ -32,19 +32,13 @@ returns-in-Ok g c =
       cap = length-set t.rows.now c.in-Ok.at c.args.row;
     }
 
-pub returns-then-len-self : goal.returns-then-len-self
-returns-then-len-self g c =
+pub returns-then-len-self-clause-room : goal.returns-then-len-self-clause-room
+returns-then-len-self-clause-room g c =
     let at = g.R.Viewable.viewed in
     let t = c.args.self.now in
     let n = length-take-le t.len t.rows.now t.fits in
     let gap = subst (λ v. Gap at v (entries t) c.in-Err.at) c.view.ensures c.in-Err.ensures in
-    record {
-      room = room_none at (entries t) (length t.rows.now) c.args.row c.in-Err.at t.rises (omega arith) gap;
-      rows = refl;
-      one_more = λ v. refl;
-      counted = refl;
-      cap = refl;
-    }
+    room_none at (entries t) (length t.rows.now) c.args.row c.in-Err.at t.rises (omega arith) gap
 
 -- those below the place alone, until the row stands
 pub invariant_of-self-in-Err : goal.invariant_of-self-in-Err
