@@ -21,8 +21,8 @@ impl<'a> Effects<'a> {
         Effects { list, len: 0 }
     }
 
-    /// The effects that stand in it.
-    fn as_slice(&self) -> &[Effect]
+    /// The effects that stand in it, in their order.
+    pub fn as_slice(&self) -> &[Effect]
         ensures { result.now ≡ entries self.now }
     {
         &self.list[..self.len]

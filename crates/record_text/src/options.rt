@@ -37,10 +37,7 @@ pub fn option(word: &[u8], name: &str) -> Result<Option<u64>, Problem>
 fn past_option<'a>(text: &'a [u8], option: Option<u64>) -> &'a [u8]
     ensures { result.now ≡ past option text.now }
 {
-    match option {
-        Some(_) => after(text, 1),
-        None => text,
-    }
+    option.map_or(text, |_| after(text, 1))
 }
 
 /// The options at the front of a text: in this order, each at most once, and nothing behind them.

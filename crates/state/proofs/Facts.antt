@@ -18,54 +18,24 @@ use Rattle.state.specs.Lawful.{Lawful}
 use Rattle.state.specs.States.{held, term}
 use Rattle.state.proofs.Sounds.{Rises as Rise}
 
--- what the ghost fields of a state say
-abbrev pub Facts : {R : Type 0} {g : viewable.Ghosts R} → Store R g → Bool → Type 0
-Facts s fit = record {
-  finalization_fits : fit ≡ true → 0 < places s.finalization;
-  nullifications_fit : fit ≡ true → 128 ≤ capacity s.nullifications;
-  pending_fit : fit ≡ true → 128 ≤ capacity s.pending_notarizations;
-  certified_fit : fit ≡ true → 128 ≤ capacity s.certified_notarizations;
-  failed_fit : fit ≡ true → 128 ≤ capacity s.uncertifiable_notarizations;
-  nullifications_few : length (entries s.nullifications) ≤ 128;
-  pending_few : length (entries s.pending_notarizations) ≤ 128;
-  certified_few : length (entries s.certified_notarizations) ≤ 128;
-  failed_few : length (entries s.uncertifiable_notarizations) ≤ 128;
-  floor_finalized : finalized (values s) ≤ s.floor;
-  floor_low : s.floor ≤ 2 ^ 62;
-  current_low : s.current_view ≤ 2 ^ 62;
-  nullifications_open : (u : ℕ) → is_nullified u (values s) ≡ true → finalized (values s) < end (length_of s) u;
-  pending_above : (u : ℕ) → is_pending u (values s) ≡ true → finalized (values s) < u;
-  certified_above : (u : ℕ) → is_certified u (values s) ≡ true → finalized (values s) < u;
-  failed_above : (u : ℕ) → has_failed u (values s) ≡ true → finalized (values s) < u;
-  cursor_first : s.replaying ≡ true → s.cursor ≡ 0;
-  cursor_lands : s.replaying ≡ false → s.cursor ≡ landing (length_of s) (s.floor + 1) s.current_view;
-  gaps_few : s.replaying ≡ false → length (gaps_of (length_of s) (values s)) ≤ 128;
-}
-
-pub facts : {R : Type 0} {g : viewable.Ghosts R} (s : Store R g) (fit : Bool) → (fit ≡ true → Roomy s) → Lawful (length_of s) (values s) → Facts s fit
-facts s fit roomy ok = search rules
-
 module _ {R : Type 0} {g : viewable.Ghosts R} (s : State R g) where
   pub rises_of : Rise (held s)
   rises_of = search rules
 
-  pub roomy_of : s.fit ≡ true → Roomy s.store
-  roomy_of t = search rules
-
-  pub lawful_of : Lawful (term s) (held s)
-  lawful_of = search rules
-
   pub low_of : Low (held s)
-  low_of = search rules
+  low_of = record { floor = s.lawful.sound.floor_low; current = s.lawful.sound.current_low }
 
   pub finalized_low : finalized (held s) ≤ 2 ^ 62
-  finalized_low = omega (arith, s.floor_finalized, s.floor_low)
+  finalized_low = omega (arith, s.lawful.sound.floor_finalized, s.lawful.sound.floor_low)
 
-  -- the facts of the state after a turn of its store
-  pub facts_after : (b : Store R g) (v : Values R g) → Turned s.store b v → Lawful (term s) v → Facts b s.fit
-  facts_after b v p ok =
-      let roomy : s.fit ≡ true → Roomy b = λ t. let r = roomy_of t in search rules in
-      facts b s.fit roomy (subst (λ n. Lawful n (values b)) (sym (ap views p.kept.length)) (subst (Lawful (term s)) (sym p.is) ok))
+  module _ (b : Store R g) (v : Values R g) (p : Turned s.store b v) where
+    -- a turn of its store leaves the places
+    pub roomy_after : s.fit ≡ true → Roomy b
+    roomy_after t = let r = s.roomy t in search rules
+
+    -- and what holds of the values that it leaves
+    pub lawful_after : Lawful (term s) v → Lawful (length_of b) (values b)
+    lawful_after ok = subst (λ n. Lawful n (values b)) (sym (ap views p.kept.length)) (subst (Lawful (term s)) (sym p.is) ok)
 
 -- a list that was cleared has room for 256 effects
 pub cleared_room : (before cleared : Effects) (n : ℕ) → list.entries cleared ≡ [] → cleared.list.now ≡ before.list.now → n ≤ 256 → 256 ≤ list.places before → HasRoom n cleared

@@ -11,11 +11,10 @@ impl<'a, R: Copy + Viewable> State<'a, R> {
     fn finalization_for(&self, view: View) -> Option<R>
         ensures { result ≡ finalization_for (term self.now) view (held self.now) }
     {
-        if view <= self.store.last_finalized() {
-            self.store.finalization.get()
-        } else {
-            None
-        }
+        self.store
+            .finalization
+            .get()
+            .filter(|finalization| view <= finalization.view())
     }
 
     /// What passed at the floor, for a view that is not above it.

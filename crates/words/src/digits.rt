@@ -3,20 +3,7 @@ ghost use Rattle.words.specs.Numerals.{read_on, plainly, decimal_of, number_of, 
 
 use crate::Problem;
 use crate::class::{Decimal, all};
-
-/// The number that digits write, if it fits 64 bits.
-#[tactic(auto, using(crate::proofs::Numerals::read_on_more, crate::proofs::Numerals::read_on_grows))]
-fn value(word: &[u8]) -> Option<u64>
-    ensures { result ≡ (if nat_lt (read_on 0 word.now) (2 ^ 64) then Some (read_on 0 word.now) else None) }
-{
-    let mut n: u64 = 0;
-    for c in word {
-        n = n
-            .checked_mul(10)?
-            .checked_add(u64::from(c.saturating_sub(b'0')))?;
-    }
-    Some(n)
-}
+use std::str::from_utf8;
 
 /// Whether a word is digits alone, with a zero in front only if nothing follows it.
 fn plain(word: &[u8]) -> bool
@@ -29,14 +16,15 @@ fn plain(word: &[u8]) -> bool
 }
 
 /// The number that a word writes in decimal, without sign or leading zeros.
-#[tactic(auto, unfolding(crate::specs::Numerals::decimal_of))]
+#[tactic(auto, using(crate::proofs::Numerals::plain_utf8, crate::proofs::Numerals::reads), unfolding(crate::specs::Numerals::decimal_of))]
 pub fn decimal(word: &[u8]) -> Result<u64, Problem>
     ensures { result ≡ decimal_of word.now }
 {
     if !plain(word) {
         return Err(Problem::NotANumber);
     }
-    value(word).ok_or(Problem::OutOfRange)
+    let digits = from_utf8(word).unwrap();
+    digits.parse().map_err(|_| Problem::OutOfRange)
 }
 
 /// The number that a word of a line writes.
