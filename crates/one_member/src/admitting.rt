@@ -1,4 +1,4 @@
-ghost use Rattle.std.specs.Prelude.{◌≡◌, ◌+◌, ◌-◌, ◌^◌, ◌<◌, ◌≤◌, true, false, ◌⊎◌, MatchResult};
+ghost use Rattle.std.specs.Prelude.{◌≡◌, ◌+◌, ◌^◌, ◌<◌, true, false, ◌⊎◌, MatchResult};
 ghost use Rattle.terms.specs.Faults.{refusal_of};
 ghost use Rattle.terms.specs.Terms.{views as views_of};
 ghost use Rattle.terms.specs.declared.fault.Fault.TheVariants.{ZeroLength};

@@ -1,4 +1,3 @@
-ghost use Rattle.std.specs.Prelude.{◌≡◌};
 ghost use Rattle.orders.specs.Orders.{meant, updated_of, certified_of, plain_of, settled_of, produce_of, order_of};
 ghost use Rattle.words.specs.Problems.{Told};
 

@@ -1,4 +1,4 @@
-ghost use Rattle.std.specs.Prelude.{◌≡◌, ◌++◌, replicate};
+ghost use Rattle.std.specs.Prelude.{◌≡◌};
 ghost use Rattle.record.specs.Certificates.{framed};
 ghost use Rattle.record_text.specs.Parts.{proposal_by, seats_proof, proof_by, parts_of};
 

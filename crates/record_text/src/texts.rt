@@ -1,4 +1,4 @@
-ghost use Rattle.std.specs.Prelude.{◌≡◌, vec_items};
+ghost use Rattle.std.specs.Prelude.{vec_items};
 ghost use Rattle.record_text.specs.Parts.{hex_record, record_of};
 ghost use Rattle.words.specs.Problems.{Told};
 

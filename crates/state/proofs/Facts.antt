@@ -1,10 +1,9 @@
 -- The facts of a state, from what is known of its store, and back.
-use Rattle.std.proofs.Common.{◌≡◌, ℕ, ◌+◌, ◌^◌, ◌<◌, ◌≤◌, Bool, true, false, [], length, is_some, sym, refl, ap, subst, arith, rules}
-use Rattle.planning.specs.Gaps.{landing}
+use Rattle.std.proofs.Common.{◌≡◌, ℕ, ◌^◌, ◌≤◌, true, false, [], length, is_some, sym, refl, ap, subst, arith, rules}
 use Rattle.slot.specs.Slots.{places}
-use Rattle.table.specs.Tables.{entries, capacity}
+use Rattle.table.specs.Tables.{entries}
 use Rattle.table.proofs.Laws.{nothing_found}
-use Rattle.terms.specs.Terms.{views, end}
+use Rattle.terms.specs.Terms.{views}
 use Rattle.std.proofs.lemmas.Bool.{true≢false, both_ways}
 use Rattle.views.specs.declared.Viewable as viewable
 use Rattle.store.specs.declared.store.Store.{Store}
@@ -12,7 +11,7 @@ use Rattle.store.specs.Fresh.{fresh}
 use Rattle.effects.specs.declared.listed.Effects.{Effects}
 use Rattle.effects.specs.Lists as list
 use Rattle.store.specs.Ready.{length_of, Roomy, Low, Turned, HasRoom}
-use Rattle.store.specs.Values.{Values, values, mark_view, finalized, is_nullified, is_pending, is_certified, has_failed, gaps_of}
+use Rattle.store.specs.Values.{Values, values, mark_view, finalized}
 use Rattle.state.specs.declared.state.State.{State}
 use Rattle.state.specs.Lawful.{Lawful}
 use Rattle.state.specs.States.{held, term}

@@ -6,7 +6,7 @@ use Rattle.record.specs.declared.kind.Kind.{Kind}
 use Rattle.record.specs.declared.kind.Kind.TheVariants.{Notarization, Nullification, Finalization}
 use Rattle.std.proofs.lemmas.Grind.{common_steps}
 use Rattle.table.proofs.Laws.{one_more, only_kept}
-use Rattle.terms.specs.Terms.{end, is_start}
+use Rattle.terms.specs.Terms.{end}
 use Rattle.terms.proofs.Laws.{to_the_end}
 use Rattle.views.specs.declared.Viewable as viewable
 use Rattle.store.specs.Values.{Values, view_of, finalized}

@@ -1,4 +1,4 @@
-ghost use Rattle.std.specs.Prelude.{◌≡◌, ◌^◌, ◌≤◌, true, false, not, ◌&&◌, length, Ok as Fine, nat_le, nat_lt};
+ghost use Rattle.std.specs.Prelude.{◌≡◌, ◌^◌, ◌≤◌, false, not, ◌&&◌, length, Ok as Fine, nat_le, nat_lt};
 ghost use Rattle.effects.specs.Lists.{places};
 ghost use Rattle.planning.specs.Gaps.{gaps};
 ghost use Rattle.record.specs.declared.kind.Kind.TheVariants.{Nullification as Nulled, Notarization as Noted};

@@ -1,10 +1,9 @@
-ghost use Rattle.std.specs.Prelude.{◌≡◌, ℕ, ◌+◌, ◌^◌, ◌<◌, ◌≤◌, Bool, true, false, cond, ◌++◌, map, length};
+ghost use Rattle.std.specs.Prelude.{◌+◌, ◌^◌, ◌≤◌, true, false, ◌++◌, map, length};
 ghost use Rattle.effects.specs.Lists.{Added};
-ghost use Rattle.record.specs.declared.kind.Kind.{Kind as Sort};
-ghost use Rattle.store.specs.Values.{values, finalized, unplanned};
+ghost use Rattle.store.specs.Values.{values, finalized};
 ghost use Rattle.store.specs.Ready.{length_of, Roomy, Low, Turned, HasRoom};
 ghost use Rattle.store.specs.Room.{Room, VerdictRoom};
-ghost use Rattle.store.specs.Steps.{finalization_taken, finalization_effects, taken, taken_effects, seen, planned, planned_effects, before_planning, updated, updated_effects, raised_effects, passing, passed, failing, failing_effects, bare_effects, failed_bare, failed_fetch, certified, certified_effects, ended, replayed, replayed_effects};
+ghost use Rattle.store.specs.Steps.{finalization_taken, finalization_effects, taken, taken_effects, planned, planned_effects, before_planning, updated, updated_effects, raised_effects, passing, passed, failing, failing_effects, bare_effects, failed_bare, failed_fetch, certified, certified_effects, replayed, replayed_effects};
 
 use crate::Store;
 use effects::{Effect, Effects, FetchReason, Kind};

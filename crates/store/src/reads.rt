@@ -1,8 +1,8 @@
-ghost use Rattle.std.specs.Prelude.{◌≡◌, ℕ, ◌≤◌, not, ◌&&◌, [], length};
+ghost use Rattle.std.specs.Prelude.{◌≡◌, length};
 ghost use Rattle.slot.specs.Slots.{places};
 ghost use Rattle.table.specs.Tables.{capacity};
 ghost use Rattle.terms.specs.Terms.{views as views_of};
-ghost use Rattle.store.specs.Values.{values, finalized, is_covered};
+ghost use Rattle.store.specs.Values.{values, finalized};
 ghost use Rattle.store.specs.Steps.{is_bare};
 ghost use Rattle.store.specs.Fresh.{fresh};
 

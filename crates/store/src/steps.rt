@@ -1,4 +1,4 @@
-ghost use Rattle.std.specs.Prelude.{◌≡◌, ℕ, ◌+◌, ◌^◌, ◌<◌, ◌≤◌, true, false};
+ghost use Rattle.std.specs.Prelude.{◌≡◌, ◌^◌, ◌<◌, ◌≤◌, true, false};
 ghost use Rattle.effects.specs.Lists.{Added};
 ghost use Rattle.planning.specs.Gaps.{pulled};
 ghost use Rattle.slot.specs.Slots.{places as lent};

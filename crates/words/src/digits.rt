@@ -1,5 +1,5 @@
-ghost use Rattle.std.specs.Prelude.{◌≡◌, ◌^◌, if◌then◌else◌, Some, None, nat_lt};
-ghost use Rattle.words.specs.Numerals.{read_on, plainly, decimal_of, number_of, short_of};
+ghost use Rattle.std.specs.Prelude.{◌≡◌};
+ghost use Rattle.words.specs.Numerals.{plainly, decimal_of, number_of, short_of};
 
 use crate::Problem;
 use crate::class::{Decimal, all};
