@@ -1,18 +1,21 @@
-use script::reply_to;
+use record_text::Defaults;
+use script::{Asked, Mistake, ask};
 use std::alloc::Global;
 use std::test::Fail;
 
-/// The reply to line 3, without the byte that ends it.
+/// What is written for line 3 where there is no member: nothing, where it is left to a member.
 fn reply(heap: Global, line: &[u8]) -> Result<String, Fail> {
-    let mut text = reply_to(heap, 3, line).to_string(heap)?;
-    let _ = text.pop();
-    Ok(text)
+    match ask(heap, line, Defaults { epoch: 0, seats: 0 }) {
+        Ok(Asked::Answer(answer)) => Ok(answer.to_string(heap)?),
+        Ok(_) => Ok(String::new(heap)),
+        Err(problem) => Ok(Mistake { line: 3, problem }.to_string(heap)?),
+    }
 }
 
 #[test]
 fn answers(rt: HostRuntime) -> Result<(), Fail> {
     let heap = rt.alloc();
-    let rows: [(&[u8], &str); 9] = [
+    let rows: [(&[u8], &str); 11] = [
         (b"", ""),
         (b"   # term 4 5 \xff", ""),
         (b"  term   4  5  # \xff", "start 5 end 8 next 9"),
@@ -25,6 +28,8 @@ fn answers(rt: HostRuntime) -> Result<(), Fail> {
             "finalization epoch 1 view 18446744073709551615 parent 2",
         ),
         (b"read nullification 1 parent=1", "refused 4 record"),
+        (b"member 0 18446744073709551615 0 0", ""),
+        (b"settled 18446744073709551615 nullification", ""),
     ];
     for (line, expected) in rows {
         assert!(rt; reply(heap, line)?.as_str() == expected);
@@ -35,7 +40,7 @@ fn answers(rt: HostRuntime) -> Result<(), Fail> {
 #[test]
 fn errors(rt: HostRuntime) -> Result<(), Fail> {
     let heap = rt.alloc();
-    let rows: [(&[u8], &str); 16] = [
+    let rows: [(&[u8], &str); 24] = [
         (b"terms 4 5", "line 3: error: unknown command"),
         (b"term\t4 5", "line 3: error: unknown command"),
         (b"\xff", "line 3: error: unknown command"),
@@ -64,6 +69,23 @@ fn errors(rt: HostRuntime) -> Result<(), Fail> {
         (b"read bytes 0", "line 3: error: odd number of hex digits"),
         (b"read bytes 0A", "line 3: error: not lower-case hex digits"),
         (b"read bytes 00 00", "line 3: error: a word too many"),
+        (b"asks", "line 3: error: unknown command"),
+        (b"member 4 7 4", "line 3: error: a word is missing"),
+        (b"member 4 7 4 3 rows", "line 3: error: a word too many"),
+        (
+            b"member 4294967296 7 4 3",
+            "line 3: error: number out of range",
+        ),
+        (b"replayed now", "line 3: error: a word too many"),
+        (
+            b"certified notarization 5",
+            "line 3: error: not a verdict: expected 'pass' or 'fail'",
+        ),
+        (
+            b"settled 5 finalization",
+            "line 3: error: not an ask: expected 'nullification' or 'notarization'",
+        ),
+        (b"produce", "line 3: error: a word is missing"),
     ];
     for (line, expected) in rows {
         assert!(rt; reply(heap, line)?.as_str() == expected);

@@ -1,2 +1,4 @@
 pub mod Carried
+pub mod Enough
 pub mod Making
+pub mod Texts

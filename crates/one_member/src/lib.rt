@@ -1,8 +1,14 @@
-//! One member as a script runs it: its making, and what it answers to each order.
+//! One member as a script runs it: its making, what it answers to each order, and in which words.
 #![tactic(auto)]
 
 pub mod admitting;
 pub mod carrying;
+pub mod member;
+pub mod places;
+pub mod showing;
 
 pub use admitting::{Admitted, NoQuorum, admit};
-pub use carrying::{Answered, carry_out};
+pub use carrying::Answered;
+pub use member::Member;
+pub use places::Places;
+pub use showing::Shown;

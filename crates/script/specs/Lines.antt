@@ -1,11 +1,16 @@
 -- What a line answers.
-use Rattle.std.specs.Prelude.{ℕ, List, take, Some, None, Ok, Option, Result}
+use Rattle.std.specs.Prelude.{ℕ, List, take, Ok, Result}
+use Rattle.orders.specs.Orders.{Meant, meant, order_of}
+use Rattle.orders.specs.Setups.{setup_of}
+use Rattle.orders.specs.declared.setup.Setup.{Setup}
 use Rattle.record_text.specs.Parts.{record_of}
+use Rattle.record_text.specs.declared.parts.Defaults.{Defaults}
 use Rattle.script.specs.Answers.{term_answer, covers_answer, read_answer}
 use Rattle.script.specs.Commands.{command_of}
 use Rattle.script.specs.declared.answer.Answer.{Answer}
 use Rattle.script.specs.declared.command.Command.{Command}
-use Rattle.script.specs.declared.command.Command.TheVariants.{Nothing, Term, Covers, Read}
+use Rattle.script.specs.declared.command.Command.TheVariants.{Nothing, Term, Covers, Read, Member, Order}
+use Rattle.script.specs.declared.lines.Asked.{Asked}
 use Rattle.words.specs.Lines.{until, word_at, after_words, ended}
 use Rattle.words.specs.Numerals.{number_of, short_of}
 use Rattle.words.specs.Problems.{bind}
@@ -22,20 +27,35 @@ term_run bs = bind (short_of (word_at 0 bs)) (λ L. bind (number_of (word_at 1 b
 unfoldable pub covers_run : List ℕ → Result Answer Problem
 covers_run bs = bind (short_of (word_at 0 bs)) (λ L. bind (number_of (word_at 1 bs)) (λ u. bind (number_of (word_at 2 bs)) (λ v. bind (ended (after_words 3 bs)) (λ _. Ok (covers_answer L u v)))))
 
--- `RECORD`, in epoch 0 and with no seats where it does not say
-unfoldable pub read_run : List ℕ → Result Answer Problem
-read_run bs = bind (record_of (record { epoch = 0; seats = 0 }) bs) (λ b. Ok (read_answer b))
+-- `RECORD`, with the defaults where it does not say
+unfoldable pub read_by : Defaults → List ℕ → Result Answer Problem
+read_by d bs = bind (record_of d bs) (λ b. Ok (read_answer b))
 
--- the run of a command on the words behind its name
-abbrev pub command_run : Command → List ℕ → Result (Option Answer) Problem
-command_run Nothing bs = Ok None
-command_run Term bs = bind (term_run bs) (λ a. Ok (Some a))
-command_run Covers bs = bind (covers_run bs) (λ a. Ok (Some a))
-command_run Read bs = bind (read_run bs) (λ a. Ok (Some a))
+-- what a line asks, by the bytes of its record
+pub data Sense : Type 0 where
+  nothing : Sense
+  answered : (answer : Answer) → Sense
+  making : (setup : Setup) → Sense
+  ordered : (order : Meant) → Sense
 
--- what a line's text answers, without its comment
-unfoldable pub text_run : List ℕ → Result (Option Answer) Problem
-text_run bs = bind (command_of (word_at 0 bs)) (λ c. command_run c (after_words 1 bs))
+abbrev pub sense : Asked → Sense
+sense Asked.Nothing = nothing
+sense (Asked.Answer a) = answered a
+sense (Asked.Member s) = making s
+sense (Asked.Order o) = ordered (meant o)
 
-abbrev pub line_run : List ℕ → Result (Option Answer) Problem
-line_run bs = text_run (take (until 35 bs) bs)
+-- what a command asks, by the line's words
+abbrev pub asked_by : Defaults → Command → List ℕ → Result Sense Problem
+asked_by d Nothing bs = Ok nothing
+asked_by d Term bs = bind (term_run (after_words 1 bs)) (λ a. Ok (answered a))
+asked_by d Covers bs = bind (covers_run (after_words 1 bs)) (λ a. Ok (answered a))
+asked_by d Read bs = bind (read_by d (after_words 1 bs)) (λ a. Ok (answered a))
+asked_by d Member bs = bind (setup_of (after_words 1 bs)) (λ s. Ok (making s))
+asked_by d Order bs = bind (order_of d bs) (λ o. Ok (ordered o))
+
+-- what a line's text asks, without its comment
+unfoldable pub text_asked : Defaults → List ℕ → Result Sense Problem
+text_asked d bs = asked_by d (command_of (word_at 0 bs)) bs
+
+abbrev pub asked_run : Defaults → List ℕ → Result Sense Problem
+asked_run d bs = text_asked d (take (until 35 bs) bs)

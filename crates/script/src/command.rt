@@ -1,8 +1,6 @@
 ghost use Rattle.std.specs.Prelude.{◌≡◌};
 ghost use Rattle.script.specs.Commands.{command_of};
 
-use words::Problem;
-
 /// What a line's first word asks for.
 #[derive(Clone, Copy, Debug)]
 pub enum Command {
@@ -11,20 +9,22 @@ pub enum Command {
     Term,
     Covers,
     Read,
+    Member,
+    /// What only a member can answer: the word is none of the others.
+    Order,
 }
 
-impl TryFrom<&[u8]> for Command {
-    type Error = Problem;
+impl From<&[u8]> for Command {
+    ghost from_gives = { λ w c. c ≡ command_of w.now };
 
-    ghost try_from_gives = { λ w r. r ≡ command_of w.now };
-
-    fn try_from(word: &[u8]) -> Result<Command, Problem> {
+    fn from(word: &[u8]) -> Command {
         match word {
-            b"" => Ok(Command::Nothing),
-            b"term" => Ok(Command::Term),
-            b"covers" => Ok(Command::Covers),
-            b"read" => Ok(Command::Read),
-            _ => Err(Problem::UnknownCommand),
+            b"" => Command::Nothing,
+            b"term" => Command::Term,
+            b"covers" => Command::Covers,
+            b"read" => Command::Read,
+            b"member" => Command::Member,
+            _ => Command::Order,
         }
     }
 }

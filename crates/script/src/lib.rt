@@ -1,13 +1,13 @@
-//! The script language of the program `member`: one reply for each line.
+//! The script language of the program `member`: what each line asks.
 #![tactic(auto)]
 
 pub mod answer;
 pub mod command;
 pub mod lines;
+pub mod mistake;
 pub mod numbered;
-pub mod reply;
 
 pub use answer::Answer;
-pub use lines::answer_line;
+pub use lines::{Asked, ask};
+pub use mistake::Mistake;
 pub use numbered::Numbered;
-pub use reply::{Reply, reply_to};

@@ -1,13 +1,27 @@
 ghost use Rattle.std.specs.Prelude.{◌≡◌};
-ghost use Rattle.script.specs.Lines.{term_run, covers_run, read_run, line_run, same};
+ghost use Rattle.script.specs.Lines.{term_run, covers_run, read_by, same, asked_run, sense};
 ghost use Rattle.words.specs.Problems.{Told};
 
 use crate::answer;
 use crate::answer::Answer;
 use crate::command::Command;
+use orders::{Order, Setup, read_order, read_setup};
 use record_text::{Defaults, record};
 use std::alloc::Global;
 use words::{Problem, after, end, number, short_number, uncommented, word};
+
+/// What a line asks.
+#[derive(Drop)]
+pub enum Asked {
+    /// Nothing: it has no word.
+    Nothing,
+    /// What is answered already, since it needs no member.
+    Answer(Answer),
+    /// A fresh member.
+    Member(Setup),
+    /// What only the member can answer.
+    Order(Order),
+}
 
 /// Runs `term L VIEW`, by the words behind its name.
 #[tactic(auto, unfolding(crate::specs::Lines::term_run, words::specs::Problems::bind))]
@@ -33,26 +47,27 @@ fn run_covers(text: &[u8]) -> Result<Answer, Problem>
 }
 
 /// Runs `read RECORD`.
-#[tactic(auto, unfolding(crate::specs::Lines::read_run, words::specs::Problems::bind))]
-fn run_read(heap: Global, text: &[u8]) -> Result<Answer, Problem>
-    ensures { Told result same (read_run text.now) }
+#[tactic(auto, unfolding(crate::specs::Lines::read_by, words::specs::Problems::bind))]
+fn run_read(heap: Global, text: &[u8], defaults: Defaults) -> Result<Answer, Problem>
+    ensures { Told result same (read_by defaults text.now) }
 {
-    let defaults = Defaults { epoch: 0, seats: 0 };
     let bytes = record(heap, text, defaults)?;
     Ok(answer::read(bytes.as_slice()))
 }
 
-/// What a line answers: nothing, if it has no word.
-#[tactic(auto, unfolding(crate::specs::Lines::text_run, words::specs::Problems::bind))]
-pub fn answer_line(heap: Global, line: &[u8]) -> Result<Option<Answer>, Problem>
-    ensures { Told result same (line_run line.now) }
+/// What a line asks. Records that do not say otherwise have the defaults.
+#[tactic(auto, unfolding(crate::specs::Lines::text_asked, words::specs::Problems::bind))]
+pub fn ask(heap: Global, line: &[u8], defaults: Defaults) -> Result<Asked, Problem>
+    ensures { Told result sense (asked_run defaults line.now) }
 {
     let text = uncommented(line);
     let rest = after(text, 1);
-    match Command::try_from(word(text, 0))? {
-        Command::Nothing => Ok(None),
-        Command::Term => run_term(rest).map(Some),
-        Command::Covers => run_covers(rest).map(Some),
-        Command::Read => run_read(heap, rest).map(Some),
+    match Command::from(word(text, 0)) {
+        Command::Nothing => Ok(Asked::Nothing),
+        Command::Term => run_term(rest).map(Asked::Answer),
+        Command::Covers => run_covers(rest).map(Asked::Answer),
+        Command::Read => run_read(heap, rest, defaults).map(Asked::Answer),
+        Command::Member => read_setup(rest).map(Asked::Member),
+        Command::Order => read_order(heap, text, defaults).map(Asked::Order),
     }
 }

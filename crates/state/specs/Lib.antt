@@ -6,4 +6,3 @@ pub mod Laws
 pub mod Serving
 pub mod Settled
 pub mod States
-pub mod Told

@@ -13,7 +13,6 @@ pub mod telling;
 
 pub use fault::Fault;
 pub use state::State;
-pub use telling::Rows;
 
 /// How many rows a table may hold, and how many places it must have.
 pub const ROWS: usize = 128;

@@ -1,23 +1,13 @@
-ghost use Rattle.std.specs.Prelude.{◌≡◌, ◌<◌, ◌≤◌, map, length, MatchOption, slice_index_or};
-ghost use Rattle.store.specs.Values.{finalized};
-ghost use Rattle.table.specs.Tables.{entries};
+ghost use Rattle.std.specs.Prelude.{◌≡◌};
+ghost use Rattle.store.specs.Values.{mark_view, finalized};
+ghost use Rattle.table.specs.Rows.{Ascending};
 ghost use Rattle.terms.specs.Terms.{views as views_of};
 ghost use Rattle.state.specs.States.{held, term, epoch_of, fits as suits};
-ghost use Rattle.state.specs.Told.{rows_of};
 
 use crate::State;
-use table::Table;
+use table::Mark;
 use terms::TermLength;
 use views::{View, Viewable};
-
-/// The tables of a state.
-#[derive(Clone, Copy, Debug, PartialEq, Eq)]
-pub enum Rows {
-    Nullifications,
-    Pending,
-    Certified,
-    Failed,
-}
 
 impl<'a, R: Copy + Viewable> State<'a, R> {
     /// How many views a term has.
@@ -76,22 +66,35 @@ impl<'a, R: Copy + Viewable> State<'a, R> {
         self.store.replaying
     }
 
-    /// The view of the row at the place `i` of a table, counted from 0, if there are so many.
-    pub fn row(&self, rows: Rows, i: usize) -> Option<View>
-        ensures { MatchOption result (length (rows_of rows (held self.now)) ≤ i) (λ v. (i < length (rows_of rows (held self.now))) × (v ≡ slice_index_or (rows_of rows (held self.now)) i v)) }
+    /// The nullifications, in ascending order of their views.
+    pub fn nullifications(&self) -> &[R]
+        ensures rows { result.now ≡ (held self.now).nullifications }
+        ensures rises { Ascending R.Viewable.viewed result.now }
     {
-        match rows {
-            Rows::Nullifications => nth_view(&self.store.nullifications, i),
-            Rows::Pending => nth_view(&self.store.pending_notarizations, i),
-            Rows::Certified => nth_view(&self.store.certified_notarizations, i),
-            Rows::Failed => nth_view(&self.store.uncertifiable_notarizations, i),
-        }
+        self.store.nullifications.as_slice()
     }
-}
 
-/// The view of the row at the place `i` of a table.
-fn nth_view<X: Copy + Viewable>(table: &Table<X>, i: usize) -> Option<View>
-    ensures { MatchOption result (length (map X.Viewable.viewed (entries table.now)) ≤ i) (λ v. (i < length (map X.Viewable.viewed (entries table.now))) × (v ≡ slice_index_or (map X.Viewable.viewed (entries table.now)) i v)) }
-{
-    table.nth(i).map(|row| row.view())
+    /// The views whose notarization waits for a verdict, in ascending order.
+    pub fn pending_notarizations(&self) -> &[Mark]
+        ensures rows { result.now ≡ (held self.now).pending }
+        ensures rises { Ascending mark_view result.now }
+    {
+        self.store.pending_notarizations.as_slice()
+    }
+
+    /// The notarizations that passed, in ascending order of their views.
+    pub fn certified_notarizations(&self) -> &[R]
+        ensures rows { result.now ≡ (held self.now).certified }
+        ensures rises { Ascending R.Viewable.viewed result.now }
+    {
+        self.store.certified_notarizations.as_slice()
+    }
+
+    /// The views whose notarization failed, in ascending order.
+    pub fn uncertifiable_notarizations(&self) -> &[Mark]
+        ensures rows { result.now ≡ (held self.now).failed }
+        ensures rises { Ascending mark_view result.now }
+    {
+        self.store.uncertifiable_notarizations.as_slice()
+    }
 }

@@ -1,20 +1,17 @@
 ghost use Rattle.std.specs.Prelude.{◌≡◌, length};
 ghost use Rattle.std.specs.Iterator.{at_most};
-ghost use Rattle.script.specs.Steps.{Replied};
+ghost use Rattle.script.specs.Steps.{Counted};
 
 use crate::numbered::Numbered;
-use crate::reply::{Reply, reply_to};
-use std::alloc::Global;
 use words::split_line;
 
 impl<'a> Numbered<'a> {
-    /// The replies to all lines of a text.
-    pub fn new(heap: Global, text: &'a [u8]) -> Numbered<'a>
+    /// All lines of a text.
+    pub fn new(text: &'a [u8]) -> Numbered<'a>
         ensures rest { result.rest.now ≡ text.now }
         ensures number { result.number ≡ 0 }
     {
         Numbered {
-            heap,
             rest: text,
             number: 0,
         }
@@ -22,14 +19,14 @@ impl<'a> Numbered<'a> {
 }
 
 impl<'a> Iterator for Numbered<'a> {
-    type Item = Reply;
+    type Item = (u64, &'a [u8]);
 
-    ghost next_gives = { Replied };
+    ghost next_gives = { Counted };
 
     ghost remaining = { λ s. at_most (length s.rest.now) };
 
-    /// The reply to the next line, if one is left. Lines are counted from 1.
-    fn next(&mut self) -> Option<Reply> {
+    /// The next line with its number, if one is left. Lines are counted from 1.
+    fn next(&mut self) -> Option<(u64, &'a [u8])> {
         let text = self.rest;
         if text.is_empty() {
             return None;
@@ -38,6 +35,6 @@ impl<'a> Iterator for Numbered<'a> {
         let number = self.number + 1;
         self.rest = rest;
         self.number = number;
-        Some(reply_to(self.heap, number, line))
+        Some((number, line))
     }
 }

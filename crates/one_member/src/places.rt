@@ -1,0 +1,59 @@
+ghost use Rattle.std.specs.Prelude.{◌≡◌, ◌≤◌, true, IfOk};
+ghost use Rattle.effects.specs.Lists.{places};
+ghost use Rattle.state.specs.States.{fits};
+ghost use Rattle.one_member.specs.Enough.{Enough};
+
+use crate::{Admitted, Member};
+use effects::Effect;
+use record::{Certificate, Proof, Round};
+use state::{EFFECTS, ROWS};
+use std::alloc::{AllocError, Global};
+use store::Memory;
+use table::Mark;
+
+/// The memory that a program lends to a member.
+#[derive(Drop)]
+pub struct Places {
+    finalization: Vec<Certificate>,
+    nullifications: Vec<Certificate>,
+    pending_notarizations: Vec<Mark>,
+    certified_notarizations: Vec<Certificate>,
+    uncertifiable_notarizations: Vec<Mark>,
+    effects: Vec<Effect>,
+}
+
+impl Places {
+    /// As many places as a member needs.
+    pub fn new(heap: Global) -> Result<Places, AllocError>
+        ensures { IfOk result Enough }
+    {
+        let record = Certificate::Nullification {
+            round: Round { epoch: 0, view: 0 },
+            proof: Proof([0; 32]),
+        };
+        let mark = Mark { view: 0 };
+        Ok(Places {
+            finalization: vec![in heap; record; 1]?,
+            nullifications: vec![in heap; record; ROWS]?,
+            pending_notarizations: vec![in heap; mark; ROWS]?,
+            certified_notarizations: vec![in heap; record; ROWS]?,
+            uncertifiable_notarizations: vec![in heap; mark; ROWS]?,
+            effects: vec![in heap; Effect::Finalized(0); EFFECTS]?,
+        })
+    }
+
+    /// A fresh member, which these places are lent to.
+    pub fn lend(&mut self, admitted: Admitted) -> Member<'_>
+        ensures fits { Enough self.old → fits result.state ≡ true }
+        ensures places { Enough self.old → 256 ≤ places result.effects }
+    {
+        let memory = Memory {
+            finalization: self.finalization.as_mut_slice(),
+            nullifications: self.nullifications.as_mut_slice(),
+            pending_notarizations: self.pending_notarizations.as_mut_slice(),
+            certified_notarizations: self.certified_notarizations.as_mut_slice(),
+            uncertifiable_notarizations: self.uncertifiable_notarizations.as_mut_slice(),
+        };
+        Member::new(admitted, memory, self.effects.as_mut_slice())
+    }
+}
