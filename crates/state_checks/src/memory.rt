@@ -1,41 +1,42 @@
 use effects::{Effect, Effects};
 use record::{Certificate, Proof, Round};
 use state::{Fault, State};
+use std::alloc::{AllocError, Global};
 use std::test::Fail;
 use store::Memory;
 use table::Mark;
 use terms::TermLength;
 
-/// More places than a state needs.
+/// The places that a host lends.
 #[derive(Drop)]
 struct Places {
-    finalization: [Certificate; 2],
-    nullifications: [Certificate; 129],
-    pending: [Mark; 129],
-    certified: [Certificate; 129],
-    failed: [Mark; 129],
+    finalization: Vec<Certificate>,
+    nullifications: Vec<Certificate>,
+    pending: Vec<Mark>,
+    certified: Vec<Certificate>,
+    failed: Vec<Mark>,
 }
 
 impl Places {
-    fn new() -> Places {
-        Places {
-            finalization: [nullification(0); 2],
-            nullifications: [nullification(0); 129],
-            pending: [Mark { view: 0 }; 129],
-            certified: [nullification(0); 129],
-            failed: [Mark { view: 0 }; 129],
-        }
+    /// So many of them: in order for the finalization and the four tables.
+    fn new(heap: Global, places: [usize; 5]) -> Result<Places, AllocError> {
+        let [finalization, nullifications, pending, certified, failed] = places;
+        Ok(Places {
+            finalization: vec![in heap; nullification(0); finalization]?,
+            nullifications: vec![in heap; nullification(0); nullifications]?,
+            pending: vec![in heap; Mark { view: 0 }; pending]?,
+            certified: vec![in heap; nullification(0); certified]?,
+            failed: vec![in heap; Mark { view: 0 }; failed]?,
+        })
     }
 
-    /// So many of them: in order for the finalization and the four tables.
-    fn lend(&mut self, places: [usize; 5]) -> Memory<'_, Certificate> {
-        let [finalization, nullifications, pending, certified, failed] = places;
+    fn lend(&mut self) -> Memory<'_, Certificate> {
         Memory {
-            finalization: &mut self.finalization[..finalization.min(2)],
-            nullifications: &mut self.nullifications[..nullifications.min(129)],
-            pending_notarizations: &mut self.pending[..pending.min(129)],
-            certified_notarizations: &mut self.certified[..certified.min(129)],
-            uncertifiable_notarizations: &mut self.failed[..failed.min(129)],
+            finalization: self.finalization.as_mut_slice(),
+            nullifications: self.nullifications.as_mut_slice(),
+            pending_notarizations: self.pending.as_mut_slice(),
+            certified_notarizations: self.certified.as_mut_slice(),
+            uncertifiable_notarizations: self.failed.as_mut_slice(),
         }
     }
 }
@@ -62,8 +63,8 @@ fn each_place_is_tested(rt: HostRuntime) -> Result<(), Fail> {
         ([1, 128, 128, 128, 127], too_few),
     ];
     for (places, fault) in rows {
-        let mut lent = Places::new();
-        let memory = lent.lend(places);
+        let mut lent = Places::new(rt.alloc(), places)?;
+        let memory = lent.lend();
         let no_length = Some(Fault::Terms(terms::Fault::ZeroLength));
         assert_eq!(rt; State::fits(0, &memory).err(), no_length);
         assert_eq!(rt; State::fits(4, &memory).err(), fault);
@@ -79,10 +80,10 @@ fn each_place_is_tested(rt: HostRuntime) -> Result<(), Fail> {
 
 #[test]
 fn a_short_list_is_refused_first(rt: HostRuntime) -> Result<(), Fail> {
-    let mut lent = Places::new();
+    let mut lent = Places::new(rt.alloc(), ENOUGH)?;
     let mut list = [Effect::Raised(99); 255];
     let mut effects = Effects::new(&mut list);
-    let mut state = State::new(TermLength::new(4)?, 7, lent.lend(ENOUGH));
+    let mut state = State::new(TermLength::new(4)?, 7, lent.lend());
     let refused = Err(Fault::TooFewPlaces);
     assert_eq!(rt; state.updated(b"", &mut effects), refused);
     assert_eq!(rt; state.certified(b"", true, &mut effects), refused);
@@ -93,10 +94,10 @@ fn a_short_list_is_refused_first(rt: HostRuntime) -> Result<(), Fail> {
 
 #[test]
 fn places_past_the_effects_stay(rt: HostRuntime) -> Result<(), Fail> {
-    let mut lent = Places::new();
+    let mut lent = Places::new(rt.alloc(), ENOUGH)?;
     let mut list = [Effect::Raised(99); 256];
     let mut effects = Effects::new(&mut list);
-    let mut state = State::new(TermLength::new(4)?, 7, lent.lend(ENOUGH));
+    let mut state = State::new(TermLength::new(4)?, 7, lent.lend());
     state.replayed(&mut effects)?;
     state.update(nullification(10), &mut effects)?;
     assert_eq!(rt; effects.len(), 4);
