@@ -1,4 +1,5 @@
-ghost use Rattle.std.specs.Prelude.{◌≡◌};
+ghost use Rattle.std.specs.Prelude.{◌≡◌, []};
+ghost use Rattle.effects.specs.Lists.{entries};
 ghost use Rattle.store.specs.Fresh.{fresh};
 ghost use Rattle.state.specs.States.{held, term, epoch_of, fits, enough};
 ghost use Rattle.terms.specs.Terms.{views as views_of};
@@ -29,6 +30,7 @@ impl<'a> Member<'a> {
         ensures values { held result.state ≡ fresh }
         ensures fixed { (term result.state ≡ views_of admitted.term_length) × (epoch_of result.state ≡ admitted.epoch) × (result.seats ≡ admitted.seats) }
         ensures fits { fits result.state ≡ enough memory.entry }
+        ensures empty { entries result.effects ≡ [] }
         ensures list { result.effects.list.now ≡ list.old }
     {
         Member {

@@ -1,6 +1,8 @@
-ghost use Rattle.std.specs.Prelude.{◌≡◌, ◌≤◌, true, IfOk};
-ghost use Rattle.effects.specs.Lists.{places};
-ghost use Rattle.state.specs.States.{fits};
+ghost use Rattle.std.specs.Prelude.{◌≡◌, ◌≤◌, true, [], IfOk};
+ghost use Rattle.effects.specs.Lists.{entries, places};
+ghost use Rattle.store.specs.Fresh.{fresh};
+ghost use Rattle.state.specs.States.{held, term, epoch_of, fits};
+ghost use Rattle.terms.specs.Terms.{views as views_of};
 ghost use Rattle.one_member.specs.Enough.{Enough};
 
 use crate::{Admitted, Member};
@@ -44,6 +46,9 @@ impl Places {
 
     /// A fresh member, which these places are lent to.
     pub fn lend(&mut self, admitted: Admitted) -> Member<'_>
+        ensures values { held result.state ≡ fresh }
+        ensures fixed { (term result.state ≡ views_of admitted.term_length) × (epoch_of result.state ≡ admitted.epoch) × (result.seats ≡ admitted.seats) }
+        ensures empty { entries result.effects ≡ [] }
         ensures fits { Enough self.old → fits result.state ≡ true }
         ensures places { Enough self.old → 256 ≤ places result.effects }
     {
