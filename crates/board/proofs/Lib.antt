@@ -1,2 +1,3 @@
 pub mod Laws
 pub mod Sorting
+pub mod Walking

@@ -7,6 +7,7 @@ pub mod fault;
 pub mod lent;
 pub mod open;
 pub mod retire;
+pub mod walk;
 
 pub use ask::{Ask, Until};
 pub use board::{ANCESTRY, BACKGROUND, Board, Counts, PLACES};
@@ -14,3 +15,4 @@ pub use fault::Fault;
 pub use lent::Lent;
 pub use open::{Open, lower};
 pub use retire::Retire;
+pub use walk::Asks;

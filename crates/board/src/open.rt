@@ -1,9 +1,11 @@
-ghost use Rattle.std.specs.Prelude.{◌≡◌, ◌==◌, nat_lt};
+ghost use Rattle.std.specs.Prelude.{◌≡◌, ◌==◌, Some, nat_lt};
 ghost use Rattle.board.specs.Asks.{place, place_of, lower_of};
 ghost use Rattle.board.specs.Boards.{opened};
+ghost use Rattle.board.specs.Shown.{open_text};
 ghost use Rattle.board.specs.Laws.{InOrder, OneMore, Pushed, Replaced, NoneBefore, Filtered, CountedAlike, FirstOfMore};
 
 use crate::Ask;
+use std::fmt;
 use views::View;
 
 /// An open ask.
@@ -53,5 +55,18 @@ pub fn lower(best: Option<Open>, other: Open) -> Open
     match best {
         Some(best) if best.is_before(other.view, other.ask) => best,
         _ => other,
+    }
+}
+
+impl fmt::Display for Open {
+    ghost output = { λ o. Some (open_text o) };
+
+    fn fmt<W: fmt::Write>(&self, f: &mut fmt::Formatter<W>) -> fmt::Result {
+        let view = self.view;
+        match (self.ask, self.target) {
+            (Ask::Background, _) => write!(f, "{view} background"),
+            (Ask::Ancestry(kind), None) => write!(f, "{view} {kind}"),
+            (Ask::Ancestry(kind), Some(seat)) => write!(f, "{view} {kind} {seat}"),
+        }
     }
 }

@@ -1,3 +1,4 @@
+pub mod Asks
 pub mod Names
 pub mod Orders
 pub mod Setups

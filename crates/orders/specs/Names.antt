@@ -4,12 +4,12 @@ use Rattle.std.specs.Str.{bytes_eq}
 use Rattle.effects.specs.declared.effect.Kind.{Kind}
 use Rattle.effects.specs.declared.effect.Kind.TheVariants.{Nullification, Notarization}
 use Rattle.orders.specs.declared.naming.Name.{Name}
-use Rattle.orders.specs.declared.naming.Name.TheVariants.{Updated, Certified, Replayed, Settled, Produce, State}
+use Rattle.orders.specs.declared.naming.Name.TheVariants.{Updated, Certified, Replayed, Resolve, Deliver, Settled, Produce, Asks, State}
 use Rattle.words.specs.declared.problem.Problem.{Problem}
 use Rattle.words.specs.declared.problem.Problem.TheVariants.{UnknownCommand, MissingWord, NotAVerdict, NotAnAsk}
 
 abbrev pub name_of : List ℕ → Result Name Problem
-name_of w = cond (bytes_eq w (codes "updated")) (Ok Updated) (cond (bytes_eq w (codes "certified")) (Ok Certified) (cond (bytes_eq w (codes "replayed")) (Ok Replayed) (cond (bytes_eq w (codes "settled")) (Ok Settled) (cond (bytes_eq w (codes "produce")) (Ok Produce) (cond (bytes_eq w (codes "state")) (Ok State) (Err UnknownCommand))))))
+name_of w = cond (bytes_eq w (codes "updated")) (Ok Updated) (cond (bytes_eq w (codes "certified")) (Ok Certified) (cond (bytes_eq w (codes "replayed")) (Ok Replayed) (cond (bytes_eq w (codes "resolve")) (Ok Resolve) (cond (bytes_eq w (codes "deliver")) (Ok Deliver) (cond (bytes_eq w (codes "settled")) (Ok Settled) (cond (bytes_eq w (codes "produce")) (Ok Produce) (cond (bytes_eq w (codes "asks")) (Ok Asks) (cond (bytes_eq w (codes "state")) (Ok State) (Err UnknownCommand)))))))))
 
 abbrev pub verdict_of : List ℕ → Result Bool Problem
 verdict_of w = cond (length w == 0) (Err MissingWord) (cond (bytes_eq w (codes "pass")) (Ok true) (cond (bytes_eq w (codes "fail")) (Ok false) (Err NotAVerdict)))

@@ -1,6 +1,7 @@
 //! What a script asks of a member.
 #![tactic(auto)]
 
+pub mod asking;
 pub mod naming;
 pub mod order;
 pub mod reading;
@@ -8,4 +9,4 @@ pub mod setup;
 
 pub use order::Order;
 pub use reading::read_order;
-pub use setup::{Setup, read_setup};
+pub use setup::{BoardKind, Setup, read_setup};

@@ -10,8 +10,11 @@ pub enum Name {
     Updated,
     Certified,
     Replayed,
+    Resolve,
+    Deliver,
     Settled,
     Produce,
+    Asks,
     State,
 }
 
@@ -25,8 +28,11 @@ impl TryFrom<&[u8]> for Name {
             b"updated" => Ok(Name::Updated),
             b"certified" => Ok(Name::Certified),
             b"replayed" => Ok(Name::Replayed),
+            b"resolve" => Ok(Name::Resolve),
+            b"deliver" => Ok(Name::Deliver),
             b"settled" => Ok(Name::Settled),
             b"produce" => Ok(Name::Produce),
+            b"asks" => Ok(Name::Asks),
             b"state" => Ok(Name::State),
             _ => Err(Problem::UnknownCommand),
         }

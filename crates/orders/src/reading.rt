@@ -1,11 +1,13 @@
-ghost use Rattle.orders.specs.Orders.{meant, updated_of, certified_of, plain_of, settled_of, produce_of, order_of};
+ghost use Rattle.std.specs.Prelude.{◌≡◌};
+ghost use Rattle.orders.specs.Orders.{meant, updated_of, certified_of, seat_of, resolve_of, deliver_of, plain_of, settled_of, produce_of, order_of};
 ghost use Rattle.words.specs.Problems.{Told};
 
+use crate::asking::read_asks;
 use crate::naming::{Name, ask_kind, verdict};
 use crate::order::Order;
 use record_text::{Defaults, record};
 use std::alloc::Global;
-use words::{Problem, after, end, number, word};
+use words::{Problem, after, end, number, short_number, word};
 
 /// Reads `RECORD` as evidence.
 #[tactic(auto, unfolding(crate::specs::Orders::updated_of, words::specs::Problems::bind))]
@@ -46,6 +48,48 @@ fn produce(text: &[u8]) -> Result<Order, Problem>
     Ok(Order::Produce(view))
 }
 
+/// Reads `[SEAT]`.
+#[tactic(auto, unfolding(crate::specs::Orders::seat_of, words::specs::Problems::bind))]
+fn seat(text: &[u8]) -> Result<Option<u32>, Problem>
+    ensures { result ≡ seat_of text.now }
+{
+    let word = word(text, 0);
+    if word.is_empty() {
+        return Ok(None);
+    }
+    let seat = short_number(word)?;
+    end(after(text, 1))?;
+    Ok(Some(seat))
+}
+
+/// Reads `PROPOSAL VIEW ASKKIND [SEAT]`.
+#[tactic(auto, unfolding(crate::specs::Orders::resolve_of, words::specs::Problems::bind))]
+fn resolve(text: &[u8]) -> Result<Order, Problem>
+    ensures { Told result meant (resolve_of text.now) }
+{
+    let proposal = number(word(text, 0))?;
+    let view = number(word(text, 1))?;
+    let kind = ask_kind(word(text, 2))?;
+    let target = seat(after(text, 3))?;
+    Ok(Order::Resolve {
+        proposal,
+        view,
+        kind,
+        target,
+    })
+}
+
+/// Reads `VIEW ASKS RECORD`.
+#[tactic(auto, unfolding(crate::specs::Orders::deliver_of, words::specs::Problems::bind))]
+fn deliver(heap: Global, text: &[u8], defaults: Defaults) -> Result<Order, Problem>
+    ensures { Told result meant (deliver_of defaults text.now) }
+{
+    let view = number(word(text, 0))?;
+    let asks = read_asks(heap, word(text, 1))?;
+    let bytes = record(heap, after(text, 2), defaults)?;
+    Ok(Order::Deliver { view, asks, bytes })
+}
+
 /// Reads nothing more.
 #[tactic(auto, unfolding(crate::specs::Orders::plain_of, words::specs::Problems::bind))]
 fn plain(text: &[u8], order: Order) -> Result<Order, Problem>
@@ -65,8 +109,11 @@ pub fn read_order(heap: Global, text: &[u8], defaults: Defaults) -> Result<Order
         Name::Updated => updated(heap, rest, defaults),
         Name::Certified => certified(heap, rest, defaults),
         Name::Replayed => plain(rest, Order::Replayed),
+        Name::Resolve => resolve(rest),
+        Name::Deliver => deliver(heap, rest, defaults),
         Name::Settled => settled(rest),
         Name::Produce => produce(rest),
+        Name::Asks => plain(rest, Order::Asks),
         Name::State => plain(rest, Order::State),
     }
 }

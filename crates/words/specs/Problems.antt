@@ -1,7 +1,7 @@
 -- The words of each problem.
 use Rattle.std.specs.Prelude.{◌≡◌, ℕ, ◌⊎◌, List, Ok, Err, codes, Result}
 use Rattle.words.specs.declared.problem.Problem.{Problem}
-use Rattle.words.specs.declared.problem.Problem.TheVariants.{UnknownCommand, MissingWord, ExtraWord, NotANumber, OutOfRange, NotARecord, OddHex, NotHex, NotAVerdict, NotAnAsk, NoMember, OutOfMemory}
+use Rattle.words.specs.declared.problem.Problem.TheVariants.{UnknownCommand, MissingWord, ExtraWord, NotANumber, OutOfRange, NotARecord, OddHex, NotHex, NotAVerdict, NotAnAsk, NotAsks, NoMember, OutOfMemory}
 
 abbrev pub text_of : Problem → List ℕ
 text_of UnknownCommand = codes "unknown command"
@@ -14,6 +14,7 @@ text_of OddHex = codes "odd number of hex digits"
 text_of NotHex = codes "not lower-case hex digits"
 text_of NotAVerdict = codes "not a verdict: expected 'pass' or 'fail'"
 text_of NotAnAsk = codes "not an ask: expected 'nullification' or 'notarization'"
+text_of NotAsks = codes "not asks: expected 'background', 'nullification', 'notarization' or '-'"
 text_of NoMember = codes "no member yet"
 text_of OutOfMemory = codes "out of memory"
 

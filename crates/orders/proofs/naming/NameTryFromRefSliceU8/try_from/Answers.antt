@@ -16,3 +16,9 @@ returns-in-settled c = rw (text_from_reads c.args.word.now (codes "settled") (se
 
 pub returns-in-produce : goal.returns-in-produce
 returns-in-produce c = rw (text_from_reads c.args.word.now (codes "produce") (search rules) (search rules)) (search rules)
+
+pub returns-in-resolve : goal.returns-in-resolve
+returns-in-resolve c = rw (text_from_reads c.args.word.now (codes "resolve") (search rules) (search rules)) (search rules)
+
+pub returns-in-deliver : goal.returns-in-deliver
+returns-in-deliver c = rw (text_from_reads c.args.word.now (codes "deliver") (search rules) (search rules)) (search rules)
