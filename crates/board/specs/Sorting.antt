@@ -1,6 +1,6 @@
 -- Open asks in the order of their places.
 use Rattle.std.specs.Prelude.{ℕ, ◌<◌, Bool, true, cond, not, ◌&&◌, List, [], ◌∷◌, is_some, Some, None, Option, ◌==◌, nat_lt}
-use Rattle.std.specs.List.{AllByRecursion as All}
+use Rattle.std.specs.List.{AllByRecursion}
 use Rattle.board.specs.Asks.{place_of}
 use Rattle.board.specs.declared.open.Open.{Open}
 
@@ -17,7 +17,7 @@ placed o (x ∷ xs) = cond (nat_lt (place_of o) (place_of x)) (o ∷ (x ∷ xs))
 -- each comes before those after it
 abbrev pub Rises : List Open → Type 0
 Rises [] = Unit {0}
-Rises (o ∷ os) = All (λ x. place_of o < place_of x) os × Rises os
+Rises (o ∷ os) = AllByRecursion (λ x. place_of o < place_of x) os × Rises os
 
 -- asks in any order, put in order
 unfoldable pub sorted : List Open → List Open

@@ -4,9 +4,12 @@
 ghost use Rattle.std.specs.Prelude.{◌<◌, ◌≤◌, length, IsSome, IfOk};
 
 use anyhow::anyhow;
+use board::{Ask, Board, Lent, Open, PLACES};
+use list_board::ListBoard;
 use one_member::{Admitted, Member, Places, admit};
-use orders::Order;
+use orders::{BoardKind, Order};
 use record_text::Defaults;
+use row_board::{Row, RowBoard};
 use script::{Asked, Mistake, Numbered, ask};
 use std::alloc::Global;
 use std::io;
@@ -87,11 +90,11 @@ impl<W: Write + Drop> Replies<W> {
     }
 
     /// Replies to the lines up to one that makes another member.
-    fn with_member(
+    fn with_member<B: Board>(
         &mut self,
         heap: Global,
         lines: &mut Numbered,
-        member: &mut Member,
+        member: &mut Member<B>,
     ) -> io::Result<Option<Admitted>>
         ensures left { length lines.new.rest.now ≤ length lines.old.rest.now }
         ensures fewer { IfOk result (λ next. IsSome next → length lines.new.rest.now < length lines.old.rest.now) }
@@ -110,14 +113,39 @@ impl<W: Write + Drop> Replies<W> {
         Ok(None)
     }
 
+    /// Makes a member with a board of its own, and replies to the lines up to one that makes another.
+    fn one_member(
+        &mut self,
+        heap: Global,
+        lines: &mut Numbered,
+        admitted: Admitted,
+    ) -> anyhow::Result<Option<Admitted>>
+        ensures left { length lines.new.rest.now ≤ length lines.old.rest.now }
+        ensures fewer { IfOk result (λ next. IsSome next → length lines.new.rest.now < length lines.old.rest.now) }
+    {
+        let mut places = Places::new(heap)?;
+        match admitted.board {
+            BoardKind::Rows => {
+                let mut rows = vec![in heap; Row::new(0); PLACES]?;
+                let lent = Lent::test(rows.as_mut_slice()).unwrap();
+                let mut member = places.lend(admitted, RowBoard::new(lent));
+                Ok(self.with_member(heap, lines, &mut member)?)
+            }
+            BoardKind::List => {
+                let mut list = vec![in heap; Open::new(0, Ask::Background, None); PLACES]?;
+                let lent = Lent::test(list.as_mut_slice()).unwrap();
+                let mut member = places.lend(admitted, ListBoard::new(lent));
+                Ok(self.with_member(heap, lines, &mut member)?)
+            }
+        }
+    }
+
     /// Replies to each line of a text.
     fn run(&mut self, heap: Global, text: &[u8]) -> anyhow::Result<()> {
         let mut lines = Numbered::new(text);
         let mut next = self.without_member(heap, &mut lines)?;
         while let Some(admitted) = next {
-            let mut places = Places::new(heap)?;
-            let mut member = places.lend(admitted);
-            next = self.with_member(heap, &mut lines, &mut member)?;
+            next = self.one_member(heap, &mut lines, admitted)?;
         }
         Ok(())
     }

@@ -1,53 +1,101 @@
 -- What a member answers to an order, and what the order changes.
-use Rattle.std.specs.Prelude.{◌≡◌, ℕ, Bool, cond, Some, None, Option, Ok, Err, MatchResult}
+use Rattle.std.specs.Prelude.{◌≡◌, ℕ, Bool, cond, List, Some, None, Option, Ok, Err, Result, MatchResult}
+use Rattle.board.specs.Boards.{requested}
+use Rattle.board.specs.declared.open.Open.{Open}
 use Rattle.effects.specs.Lists.{places}
-use Rattle.orders.specs.Orders.{Meant, update, judge, end, ask, serve, tell}
+use Rattle.orders.specs.Orders.{Meant, update, judge, end, wish, bring, ask, serve, list, tell}
 use Rattle.record.specs.Certificates.{kind_in, proposal_in}
 use Rattle.record.specs.Format.{reading}
 use Rattle.record.specs.declared.certificate.Certificate.{Certificate}
-use Rattle.one_member.specs.declared.carrying.Answered.{Answered}
-use Rattle.one_member.specs.declared.carrying.Answered.TheVariants.{Done, Refused, Yes, No, Nothing, Served, Told}
+use Rattle.one_member.specs.declared.carrying.Answered as answered
+use Rattle.one_member.specs.declared.carrying.Answered.TheVariants.{Done, Refused, Asked, NotNeeded, Judged as Brought, Yes, No, Nothing as NoRecord, Served, Open as Listed, Told}
 use Rattle.one_member.specs.declared.member.Member.{Member}
+use Rattle.resolver.specs.Calls.{answer_of, Taken, Judged, Ended, request_answer, If}
+use Rattle.resolver.specs.Deliveries.{delivery_test, tested, delivery_answer, is_valid, if_valid, Nothing}
+use Rattle.resolver.specs.Faults.{refusal_of}
+use Rattle.resolver.specs.declared.fault.Fault.{Fault}
+use Rattle.resolver.specs.declared.outcome.Delivered.{Delivered}
 use Rattle.state.specs.Answers.{Answer, refused_if, too_few, if_read, evidence_answer, verdict_answer, marker_answer}
-use Rattle.state.specs.Calls.{Unchanged, Evidence, Verdict, Marker}
-use Rattle.state.specs.Faults.{refusal_of}
+use Rattle.state.specs.Calls.{Unchanged}
 use Rattle.state.specs.Serving.{served}
 use Rattle.state.specs.Settled.{settled}
-use Rattle.state.specs.States.{held, term, fits}
+use Rattle.state.specs.States.{held, term, epoch_of, fits}
 use Rattle.state.specs.declared.fault.Fault.TheVariants.{TooFewPlaces}
+use Rattle.verifier.specs.Seats.{seats_accept}
 
-abbrev pub done_of : Answer → Answered
+abbrev pub done_of : Result (Unit {0}) Fault → answered.Answered
 done_of (Ok _) = Done
 done_of (Err f) = Refused (refusal_of f)
 
-abbrev pub yes_no : Bool → Answered
+abbrev pub yes_no : Bool → answered.Answered
 yes_no b = cond b Yes No
 
-abbrev pub found_of : Option Certificate → Answered
-found_of None = Nothing
+abbrev pub asked_of : Result Bool Fault → answered.Answered
+asked_of (Ok b) = cond b Asked NotNeeded
+asked_of (Err f) = Refused (refusal_of f)
+
+abbrev pub judged_of : Result Delivered Fault → answered.Answered
+judged_of (Ok d) = Brought d
+judged_of (Err f) = Refused (refusal_of f)
+
+abbrev pub found_of : Option Certificate → answered.Answered
+found_of None = NoRecord
 found_of (Some c) = Served c
 
 abbrev pub view_in : Certificate → ℕ
 view_in c = (proposal_in c).round.view
 
-module _ (a : Answered) (m n : Member) where
-  -- a call that records something: the state's own answer and outcome
-  pub record Recorded (answer : Answer) (Outcome : Type 0) : Type 0 where
-    pub result : Answer
-    pub is : result ≡ refused_if (too_few (fits m.state) (places m.effects)) TooFewPlaces answer
-    pub told : a ≡ done_of result
-    pub outcome : MatchResult result (λ _. Outcome) (λ _. Unchanged m.state n.state m.effects n.effects)
+abbrev pub epoch_in : Certificate → ℕ
+epoch_in c = (proposal_in c).round.epoch
+
+module _ {B : Type 0} (asks : B → List Open) (a : answered.Answered) (m n : Member B) where
+  -- what no order changes
+  pub record Fixed : Type 0 where
     pub seats : n.seats ≡ m.seats
+    pub verifier : n.verifier ≡ m.verifier
+
+  -- a refused call changes nothing
+  pub record Same : Type 0 where
+    pub state : Unchanged m.resolver.state n.resolver.state m.effects n.effects
+    pub board : n.board ≡ m.board
+
+  -- a call that records something: the resolver's own answer and outcome
+  pub record Recorded (answer : Answer) (Outcome : Type 0) : Type 0 where
+    pub result : Result (Unit {0}) Fault
+    pub is : result ≡ answer_of (refused_if (too_few (fits m.resolver.state) (places m.effects)) TooFewPlaces answer)
+    pub told : a ≡ done_of result
+    pub outcome : MatchResult result (λ _. Outcome) (λ _. Same)
+    pub fixed : Fixed
+
+  -- a request: only the board may change
+  pub record Requested (answer : Result Bool Fault) (os : List Open) : Type 0 where
+    pub told : a ≡ asked_of answer
+    pub outcome : MatchResult answer (λ b. If b (asks n.board ≡ os) (n.board ≡ m.board)) (λ _. n.board ≡ m.board)
+    pub state : Unchanged m.resolver.state n.resolver.state m.effects n.effects
+    pub fixed : Fixed
+
+  -- a delivery: the resolver's own answer and outcome
+  pub record Delivery (answer : Result Delivered Fault) (Outcome : Type 0) : Type 0 where
+    pub told : a ≡ judged_of answer
+    pub outcome : MatchResult answer (λ d. If d.taken Outcome (Nothing m.resolver.state n.resolver.state m.effects n.effects × (n.board ≡ m.board))) (λ _. Same)
+    pub fixed : Fixed
 
   -- a question that changes nothing
-  pub record AskedOnly (answer : Answered) : Type 0 where
+  pub record AskedOnly (answer : answered.Answered) : Type 0 where
     pub told : a ≡ answer
     pub same : n ≡ m
 
-abbrev pub Carried : Meant → Answered → Member → Member → Type 0
-Carried (update bs) a m n = Recorded a m n (if_read (reading bs) (λ c. evidence_answer (term m.state) (kind_in c) c (held m.state))) ((c : Certificate) × (reading bs ≡ Ok c) × Evidence m.state n.state m.effects n.effects (kind_in c) c)
-Carried (judge b bs) a m n = Recorded a m n (if_read (reading bs) (λ c. verdict_answer (term m.state) b (kind_in c) (view_in c) (held m.state))) ((c : Certificate) × (reading bs ≡ Ok c) × Verdict m.state n.state m.effects n.effects b c)
-Carried end a m n = Recorded a m n (marker_answer (term m.state) (held m.state)) (Marker m.state n.state m.effects n.effects)
-Carried (ask v k) a m n = AskedOnly a m n (yes_no (settled (term m.state) k v (held m.state)))
-Carried (serve v) a m n = AskedOnly a m n (found_of (served (term m.state) v (held m.state)))
-Carried tell a m n = AskedOnly a m n Told
+  -- which records pass for a view
+  abbrev pub valid : ℕ → Certificate → Bool
+  valid v = is_valid (term m.resolver.state) kind_in view_in epoch_in (seats_accept m.verifier.seats m.verifier.quorum) (epoch_of m.resolver.state) v
+
+  abbrev pub Carried : Meant → Type 0
+  Carried (update bs) = Recorded (if_read (reading bs) (λ c. evidence_answer (term m.resolver.state) (kind_in c) c (held m.resolver.state))) ((c : Certificate) × (reading bs ≡ Ok c) × Taken m.resolver.state n.resolver.state m.effects n.effects (asks m.board) (asks n.board) (kind_in c) c)
+  Carried (judge b bs) = Recorded (if_read (reading bs) (λ c. verdict_answer (term m.resolver.state) b (kind_in c) (view_in c) (held m.resolver.state))) ((c : Certificate) × (reading bs ≡ Ok c) × Judged m.resolver.state n.resolver.state m.effects n.effects (asks m.board) (asks n.board) b c)
+  Carried end = Recorded (marker_answer (term m.resolver.state) (held m.resolver.state)) (Ended m.resolver.state n.resolver.state m.effects n.effects (asks m.board) (asks n.board))
+  Carried (wish p v k t) = Requested (request_answer (term m.resolver.state) p v k (asks m.board) (held m.resolver.state)) (requested v k t (asks m.board))
+  Carried (bring v qs bs) = Delivery (tested (delivery_test (fits m.resolver.state) (places m.effects) qs) (delivery_answer (term m.resolver.state) kind_in qs v (valid v) (reading bs) (held m.resolver.state))) ((c : Certificate) × (if_valid (valid v) (reading bs) ≡ Some c) × Taken m.resolver.state n.resolver.state m.effects n.effects (asks m.board) (asks n.board) (kind_in c) c)
+  Carried (ask v k) = AskedOnly (yes_no (settled (term m.resolver.state) k v (held m.resolver.state)))
+  Carried (serve v) = AskedOnly (found_of (served (term m.resolver.state) v (held m.resolver.state)))
+  Carried list = AskedOnly Listed
+  Carried tell = AskedOnly Told

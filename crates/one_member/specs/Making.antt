@@ -1,11 +1,17 @@
--- The seats that a member may have.
-use Rattle.std.specs.Prelude.{ℕ, Bool, ◌&&◌, nat_le}
-use Rattle.refusals.specs.declared.Layer.TheVariants.{Verifier}
-use Rattle.refusals.specs.declared.Refusal.{Refusal}
+-- The mask of a quorum.
+use Rattle.std.specs.Prelude.{◌≡◌, ℕ, ◌+◌, ◌^◌, ◌<◌, true}
+use Rattle.orders.specs.declared.setup.Setup.{Setup}
+use Rattle.one_member.specs.declared.admitted.Admitted.{Admitted}
+use Rattle.terms.specs.Terms.{views}
+use Rattle.verifier.specs.Seats.{allowed}
 
--- from 1 to all of at most 64 seats
-abbrev pub allowed : ℕ → ℕ → Bool
-allowed n q = nat_le 1 q && (nat_le q n && nat_le n 64)
-
-abbrev pub no_quorum : Refusal
-no_quorum = record { number = 15; layer = Verifier }
+-- what is made as it was asked for
+pub record Made (s : Setup) (a : Admitted) : Type 0 where
+  pub long : 0 < s.term_length
+  pub quorum : allowed s.seats s.quorum ≡ true
+  pub term_length : views a.term_length ≡ s.term_length
+  pub epoch : a.epoch ≡ s.epoch
+  pub verifier_seats : a.verifier.seats ≡ s.seats
+  pub verifier_quorum : a.verifier.quorum ≡ s.quorum
+  pub mask : a.seats + 1 ≡ 2 ^ s.quorum
+  pub board : a.board ≡ s.board

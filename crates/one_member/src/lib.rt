@@ -1,13 +1,15 @@
 //! One member as a script runs it: its making, what it answers to each order, and in which words.
 #![tactic(auto)]
 
+pub mod admitted;
 pub mod admitting;
 pub mod carrying;
 pub mod member;
 pub mod places;
 pub mod showing;
 
-pub use admitting::{Admitted, NoQuorum, admit};
+pub use admitted::Admitted;
+pub use admitting::admit;
 pub use carrying::Answered;
 pub use member::Member;
 pub use places::Places;

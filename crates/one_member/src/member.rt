@@ -8,33 +8,41 @@ use crate::Admitted;
 use effects::{Effect, Effects};
 use record::Certificate;
 use record_text::Defaults;
-use state::State;
+use resolver::Resolver;
 use store::Memory;
+use verifier::SeatVerifier;
 
-/// One member as a script runs it: its state, and the list that it lends to each call.
+/// One member as a script runs it: its resolver, with its board and its verifier, and the list that it lends to each
+/// call.
 #[derive(Drop)]
-pub struct Member<'a> {
-    pub(crate) state: State<'a, Certificate>,
+pub struct Member<'a, B> {
+    pub(crate) resolver: Resolver<'a, Certificate>,
+    pub(crate) board: B,
+    pub(crate) verifier: SeatVerifier,
     pub(crate) effects: Effects<'a>,
     /// The seats that stand behind a record that does not say.
     pub(crate) seats: u64,
 }
 
-impl<'a> Member<'a> {
+impl<'a, B> Member<'a, B> {
     /// A fresh member, at the start of a replay.
     pub fn new(
         admitted: Admitted,
         memory: Memory<'a, Certificate>,
         list: &'a mut [Effect],
-    ) -> Member<'a>
-        ensures values { held result.state ≡ fresh }
-        ensures fixed { (term result.state ≡ views_of admitted.term_length) × (epoch_of result.state ≡ admitted.epoch) × (result.seats ≡ admitted.seats) }
-        ensures fits { fits result.state ≡ enough memory.entry }
+        board: B,
+    ) -> Member<'a, B>
+        ensures values { held result.resolver.state ≡ fresh }
+        ensures fixed { (term result.resolver.state ≡ views_of admitted.term_length) × (epoch_of result.resolver.state ≡ admitted.epoch) × (result.verifier ≡ admitted.verifier) × (result.seats ≡ admitted.seats) }
+        ensures board { result.board ≡ board }
+        ensures fits { fits result.resolver.state ≡ enough memory.entry }
         ensures empty { entries result.effects ≡ [] }
         ensures list { result.effects.list.now ≡ list.old }
     {
         Member {
-            state: State::new(admitted.term_length, admitted.epoch, memory),
+            resolver: Resolver::new(admitted.term_length, admitted.epoch, memory),
+            board,
+            verifier: admitted.verifier,
             effects: Effects::new(list),
             seats: admitted.seats,
         }
@@ -42,10 +50,10 @@ impl<'a> Member<'a> {
 
     /// What a record has where a script does not say.
     pub fn defaults(&self) -> Defaults
-        ensures { result ≡ record { epoch = epoch_of self.now.state; seats = self.now.seats } }
+        ensures { result ≡ record { epoch = epoch_of self.now.resolver.state; seats = self.now.seats } }
     {
         Defaults {
-            epoch: self.state.epoch(),
+            epoch: self.resolver.state().epoch(),
             seats: self.seats,
         }
     }

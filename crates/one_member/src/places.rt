@@ -44,12 +44,13 @@ impl Places {
         })
     }
 
-    /// A fresh member, which these places are lent to.
-    pub fn lend(&mut self, admitted: Admitted) -> Member<'_>
-        ensures values { held result.state ≡ fresh }
-        ensures fixed { (term result.state ≡ views_of admitted.term_length) × (epoch_of result.state ≡ admitted.epoch) × (result.seats ≡ admitted.seats) }
+    /// A fresh member with this board, which these places are lent to.
+    pub fn lend<B>(&mut self, admitted: Admitted, board: B) -> Member<'_, B>
+        ensures values { held result.resolver.state ≡ fresh }
+        ensures fixed { (term result.resolver.state ≡ views_of admitted.term_length) × (epoch_of result.resolver.state ≡ admitted.epoch) × (result.verifier ≡ admitted.verifier) × (result.seats ≡ admitted.seats) }
+        ensures board { result.board ≡ board }
         ensures empty { entries result.effects ≡ [] }
-        ensures fits { Enough self.old → fits result.state ≡ true }
+        ensures fits { Enough self.old → fits result.resolver.state ≡ true }
         ensures places { Enough self.old → 256 ≤ places result.effects }
     {
         let memory = Memory {
@@ -59,6 +60,6 @@ impl Places {
             certified_notarizations: self.certified_notarizations.as_mut_slice(),
             uncertifiable_notarizations: self.uncertifiable_notarizations.as_mut_slice(),
         };
-        Member::new(admitted, memory, self.effects.as_mut_slice())
+        Member::new(admitted, memory, self.effects.as_mut_slice(), board)
     }
 }

@@ -1,11 +1,13 @@
 ghost use Rattle.std.specs.Prelude.{◌≡◌, Some};
-ghost use Rattle.one_member.specs.Texts.{yes_text, record_text, numbers_text, tables_text, answer_text};
+ghost use Rattle.board.specs.Left.{shown};
+ghost use Rattle.one_member.specs.Texts.{yes_text, record_text, numbers_text, tables_text, taken_text, asks_text, answer_text};
 ghost use Rattle.state.specs.States.{held};
 
 use crate::{Answered, Member};
+use board::{Asks, Board};
 use listings::{Hex, Listed, Rows};
 use record::Certificate;
-use state::State;
+use resolver::{Delivered, Resolver};
 use std::fmt;
 
 /// Whether something is so.
@@ -36,13 +38,13 @@ impl fmt::Display for Written {
 
 /// The numbers of a state.
 #[derive(Drop)]
-struct Numbers<'s, 'a>(&'s State<'a, Certificate>);
+struct Numbers<'r, 'a>(&'r Resolver<'a, Certificate>);
 
 impl fmt::Display for Numbers<'_, '_> {
-    ghost output = { λ n. Some (numbers_text (held n.0.now)) };
+    ghost output = { λ n. Some (numbers_text (held n.0.now.state)) };
 
     fn fmt<W: fmt::Write>(&self, f: &mut fmt::Formatter<W>) -> fmt::Result {
-        let state = self.0;
+        let state = self.0.state();
         let (floor, current) = (state.floor(), state.current_view());
         let (cursor, finalized) = (state.cursor(), state.last_finalized());
         let replay = Truth(state.is_replaying());
@@ -55,13 +57,13 @@ impl fmt::Display for Numbers<'_, '_> {
 
 /// The tables of a state.
 #[derive(Drop)]
-struct Tables<'s, 'a>(&'s State<'a, Certificate>);
+struct Tables<'r, 'a>(&'r Resolver<'a, Certificate>);
 
 impl fmt::Display for Tables<'_, '_> {
-    ghost output = { λ t. Some (tables_text (held t.0.now)) };
+    ghost output = { λ t. Some (tables_text (held t.0.now.state)) };
 
     fn fmt<W: fmt::Write>(&self, f: &mut fmt::Formatter<W>) -> fmt::Result {
-        let state = self.0;
+        let state = self.0.state();
         let nullifications = Rows(state.nullifications());
         let pending = Rows(state.pending_notarizations());
         let certified = Rows(state.certified_notarizations());
@@ -73,16 +75,48 @@ impl fmt::Display for Tables<'_, '_> {
     }
 }
 
+/// Whether a delivered record was taken.
+#[derive(Clone, Copy)]
+struct Taking(bool);
+
+impl fmt::Display for Taking {
+    ghost output = { λ t. Some (taken_text t.0) };
+
+    fn fmt<W: fmt::Write>(&self, f: &mut fmt::Formatter<W>) -> fmt::Result {
+        f.write_str(if self.0 { " taken" } else { " not taken" })
+    }
+}
+
+/// The open asks of a board.
+#[derive(Drop)]
+struct OpenAsks<'b, B>(&'b B);
+
+impl<B: Board> fmt::Display for OpenAsks<'_, B> {
+    ghost output = { λ a. Some (asks_text (shown (B.asks a.0.now))) };
+
+    fn fmt<W: fmt::Write>(&self, f: &mut fmt::Formatter<W>) -> fmt::Result {
+        let mut asks = Asks::new(self.0);
+        let Some(first) = asks.next() else {
+            return f.write_str("none");
+        };
+        write!(f, "{first}")?;
+        for asked in asks {
+            write!(f, ", {asked}")?;
+        }
+        Ok(())
+    }
+}
+
 /// A member's answer, as a script shows it.
 #[derive(Drop)]
-pub struct Shown<'m, 'a> {
-    member: &'m Member<'a>,
+pub struct Shown<'m, 'a, B> {
+    member: &'m Member<'a, B>,
     answered: Answered,
 }
 
-impl<'a> Member<'a> {
+impl<'a, B> Member<'a, B> {
     /// An answer of this member, to be written out before its next one.
-    pub fn shows<'m>(&'m self, answered: Answered) -> Shown<'m, 'a>
+    pub fn shows<'m>(&'m self, answered: Answered) -> Shown<'m, 'a, B>
         ensures member { result.member.now ≡ self.now }
         ensures answered { result.answered ≡ answered }
     {
@@ -93,19 +127,26 @@ impl<'a> Member<'a> {
     }
 }
 
-impl fmt::Display for Shown<'_, '_> {
-    ghost output = { λ s. Some (answer_text s.member.now s.answered) };
+impl<B: Board> fmt::Display for Shown<'_, '_, B> {
+    ghost output = { λ s. Some (answer_text B.asks s.member.now s.answered) };
 
     fn fmt<W: fmt::Write>(&self, f: &mut fmt::Formatter<W>) -> fmt::Result {
-        let Member { state, effects, .. } = self.member;
+        let effects = Listed(self.member.effects.as_slice());
+        let resolver = &self.member.resolver;
         match self.answered {
-            Answered::Done => write!(f, "ok{}", Listed(effects.as_slice())),
+            Answered::Done => write!(f, "ok{effects}"),
             Answered::Refused(refusal) => write!(f, "{refusal}"),
+            Answered::Asked => f.write_str("asked"),
+            Answered::NotNeeded => f.write_str("not needed"),
+            Answered::Judged(Delivered { outcome, taken }) => {
+                write!(f, "{outcome}{}{effects}", Taking(taken))
+            }
             Answered::Yes => f.write_str("yes"),
             Answered::No => f.write_str("no"),
             Answered::Nothing => f.write_str("none"),
             Answered::Served(record) => write!(f, "{}", Written(record)),
-            Answered::Told => write!(f, "{}{}", Numbers(state), Tables(state)),
+            Answered::Open => write!(f, "{}", OpenAsks(&self.member.board)),
+            Answered::Told => write!(f, "{}{}", Numbers(resolver), Tables(resolver)),
         }
     }
 }

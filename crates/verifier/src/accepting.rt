@@ -5,6 +5,6 @@ pub trait Verifier<R> {
     /// Whether the set has a record.
     ghost accepted: { Self → R → Bool };
 
-    fn accepts(&self, record: &R) -> bool
-        ensures { result ≡ accepted self.now record.now };
+    fn accepts(&self, offered: &R) -> bool
+        ensures { result ≡ accepted self.now offered.now };
 }
