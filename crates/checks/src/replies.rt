@@ -15,7 +15,7 @@ fn reply(heap: Global, line: &[u8]) -> Result<String, Fail> {
 #[test]
 fn answers(rt: HostRuntime) -> Result<(), Fail> {
     let heap = rt.alloc();
-    let rows: [(&[u8], &str); 11] = [
+    let rows: [(&[u8], &str); 13] = [
         (b"", ""),
         (b"   # term 4 5 \xff", ""),
         (b"  term   4  5  # \xff", "start 5 end 8 next 9"),
@@ -30,6 +30,8 @@ fn answers(rt: HostRuntime) -> Result<(), Fail> {
         (b"read nullification 1 parent=1", "refused 4 record"),
         (b"member 0 18446744073709551615 0 0", ""),
         (b"settled 18446744073709551615 nullification", ""),
+        (b"deliver 5 background,notarization,background bytes -", ""),
+        (b"resolve 9 5 notarization 4294967295", ""),
     ];
     for (line, expected) in rows {
         assert!(rt; reply(heap, line)?.as_str() == expected);
@@ -40,7 +42,7 @@ fn answers(rt: HostRuntime) -> Result<(), Fail> {
 #[test]
 fn errors(rt: HostRuntime) -> Result<(), Fail> {
     let heap = rt.alloc();
-    let rows: [(&[u8], &str); 24] = [
+    let rows: [(&[u8], &str); 31] = [
         (b"terms 4 5", "line 3: error: unknown command"),
         (b"term\t4 5", "line 3: error: unknown command"),
         (b"\xff", "line 3: error: unknown command"),
@@ -69,9 +71,31 @@ fn errors(rt: HostRuntime) -> Result<(), Fail> {
         (b"read bytes 0", "line 3: error: odd number of hex digits"),
         (b"read bytes 0A", "line 3: error: not lower-case hex digits"),
         (b"read bytes 00 00", "line 3: error: a word too many"),
-        (b"asks", "line 3: error: unknown command"),
+        (b"offer replayed", "line 3: error: unknown command"),
         (b"member 4 7 4", "line 3: error: a word is missing"),
-        (b"member 4 7 4 3 rows", "line 3: error: a word too many"),
+        (b"member 4 7 4 3 row", "line 3: error: a word too many"),
+        (
+            b"member 4 7 4 3 rows list",
+            "line 3: error: a word too many",
+        ),
+        (
+            b"resolve 9 5 nullification 4294967296",
+            "line 3: error: number out of range",
+        ),
+        (
+            b"resolve 9 5 nullification 1 2",
+            "line 3: error: a word too many",
+        ),
+        (
+            b"deliver 5 background,, nullification 5",
+            "line 3: error: not asks: expected 'background', 'nullification', 'notarization' or '-'",
+        ),
+        (
+            b"deliver 5 -,background nullification 5",
+            "line 3: error: not asks: expected 'background', 'nullification', 'notarization' or '-'",
+        ),
+        (b"deliver 5 background", "line 3: error: a word is missing"),
+        (b"deliver 5", "line 3: error: a word is missing"),
         (
             b"member 4294967296 7 4 3",
             "line 3: error: number out of range",
