@@ -40,7 +40,8 @@ impl Problem {
             Problem::NotHex => "not lower-case hex digits",
             Problem::NotAVerdict => "not a verdict: expected 'pass' or 'fail'",
             Problem::NotAnAsk => "not an ask: expected 'nullification' or 'notarization'",
-            Problem::NotAsks => "not asks: expected 'background', 'nullification', 'notarization' or '-'",
+            Problem::NotAsks =>
+                "not asks: expected 'background', 'nullification', 'notarization' or '-'",
             Problem::NoMember => "no member yet",
             Problem::OutOfMemory => "out of memory",
         }

@@ -15,8 +15,8 @@ returns-clause-steps g c =
     let os = g.B.Board.asks s.board.now in
     let low : c.in-Some.open.view < 2 ^ 64 = search rules in
     ap (λ n. from_next n os) c.in_ok-view.was
-      ∙ (one_from (place c.in_ok-view.view c.in_ok-view.ask) os c.in-Some.open (g.met.B.Board.rises s.board.now) (sym c.first_from.ensures ∙ c.in-Some.is) low
-      ∙ ap (λ xs. c.in-Some.open ∷ xs) (after c.following-self.result (place c.in-Some.open.view c.in-Some.open.ask + 1) os c.following-self.ensures))
+    ∙ (one_from (place c.in_ok-view.view c.in_ok-view.ask) os c.in-Some.open (g.met.B.Board.rises s.board.now) (sym c.first_from.ensures ∙ c.in-Some.is) low
+    ∙ ap (λ xs. c.in-Some.open ∷ xs) (after c.following-self.result (place c.in-Some.open.view c.in-Some.open.ask + 1) os c.following-self.ensures))
 
 pub returns-clause-goes : goal.returns-clause-goes
 returns-clause-goes g c =
@@ -24,6 +24,6 @@ returns-clause-goes g c =
     let os = g.B.Board.asks s.board.now in
     let low : c.in-Some.open.view < 2 ^ 64 = search rules in
     let steps = ap (λ n. from_next n os) c.in_ok-view.was
-      ∙ (one_from (place c.in_ok-view.view c.in_ok-view.ask) os c.in-Some.open (g.met.B.Board.rises s.board.now) (sym c.first_from.ensures ∙ c.in-Some.is) low
-      ∙ ap (λ xs. c.in-Some.open ∷ xs) (after c.following-self.result (place c.in-Some.open.view c.in-Some.open.ask + 1) os c.following-self.ensures)) in
+    ∙ (one_from (place c.in_ok-view.view c.in_ok-view.ask) os c.in-Some.open (g.met.B.Board.rises s.board.now) (sym c.first_from.ensures ∙ c.in-Some.is) low
+    ∙ ap (λ xs. c.in-Some.open ∷ xs) (after c.following-self.result (place c.in-Some.open.view c.in-Some.open.ask + 1) os c.following-self.ensures)) in
     record { on = λ _. (tt, tt, omega (arith, ap length steps)); keeps = tt; rests = λ _. tt }
