@@ -1,12 +1,12 @@
 -- What a walk through the open asks has left after each.
-use Rattle.std.proofs.Common.{◌≡◌, ℕ, ◌+◌, ◌*◌, ◌^◌, ◌<◌, ◌≤◌, Bool, true, false, ◌&&◌, List, [], ◌∷◌, Some, None, filter, Option, sym, refl, ap, ◌∙◌, subst, MatchOption, inl, inr, arith}
+use Rattle.std.proofs.Common.{◌≡◌, ℕ, ◌+◌, ◌*◌, ◌^◌, ◌<◌, ◌≤◌, Bool, true, List, [], ◌∷◌, Some, None, filter, Option, sym, refl, ap, ◌∙◌, subst, MatchOption, inl, inr, arith}
 use Rattle.std.specs.Prelude.{nat_le, nat_lt}
 use Rattle.std.specs.List.{AllByRecursion as All}
 use Rattle.std.proofs.lemmas.Bool.{cases_Bool, leb-true, leb-false, lt-ltb, le-leb, lt-leb, le-ltb}
 use Rattle.std.proofs.lemmas.Option.{same_Some, none-some}
 use Rattle.board.specs.Asks.{rank, place, place_of}
 use Rattle.board.specs.Boards.{first_of}
-use Rattle.board.specs.Left.{shown_from, shown, from_next}
+use Rattle.board.specs.Left.{shown_from, from_next}
 use Rattle.board.specs.Sorting.{Rises}
 use Rattle.board.specs.declared.ask.Ask.{Ask}
 use Rattle.board.specs.declared.ask.Ask.TheVariants.{Background, Ancestry}

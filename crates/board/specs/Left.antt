@@ -1,5 +1,5 @@
 -- The open asks that are left to go through.
-use Rattle.std.specs.Prelude.{ℕ, ◌^◌, Bool, ◌&&◌, List, [], filter, Some, None, Option, nat_le, nat_lt}
+use Rattle.std.specs.Prelude.{ℕ, ◌^◌, ◌&&◌, List, [], filter, Some, None, Option, nat_le, nat_lt}
 use Rattle.board.specs.Asks.{place, place_of}
 use Rattle.board.specs.declared.ask.Ask.{Ask}
 use Rattle.board.specs.declared.open.Open.{Open}

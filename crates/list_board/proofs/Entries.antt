@@ -1,12 +1,12 @@
 -- What the asks in order of arrival tell of the asks in order.
-use Rattle.std.proofs.Common.{◌≡◌, ℕ, zero, suc, ◌+◌, ◌-◌, ◌<◌, ◌≤◌, Bool, true, false, cond, not, eqb, ltb, List, [], ◌∷◌, ◌++◌, length, take, set, get_or, is_some, Some, None, filter, Option, sym, refl, ap, ◌∙◌, subst, inl, inr, arith}
+use Rattle.std.proofs.Common.{◌≡◌, ℕ, zero, suc, ◌+◌, ◌-◌, ◌<◌, ◌≤◌, Bool, true, false, cond, not, eqb, ltb, List, [], ◌∷◌, ◌++◌, length, take, set, get_or, is_some, Some, None, filter, Option, sym, refl, ap, ◌∙◌, inl, inr, arith}
 use Rattle.std.specs.List.{position, position_or_len}
 use Rattle.std.proofs.lemmas.List.Quantifiers.{position-Some}
 use Rattle.std.proofs.lemmas.Bool.{eqb-true, le-leb, lt-leb, cases_Bool, cases_lt, lt-ltb, le-ltb}
 use Rattle.std.proofs.lemmas.List.{take_more, take_more_set}
 use Rattle.std.proofs.lemmas.List.Filters.{length-filter_both}
-use Rattle.board.specs.Asks.{is_background, lower_of, place, place_of, retires}
-use Rattle.board.specs.Boards.{backgrounds, ancestries, is_open, ancestry_full, requested, opened, retired, counted, first_of}
+use Rattle.board.specs.Asks.{is_background, lower_of, place, place_of}
+use Rattle.board.specs.Boards.{backgrounds, ancestries, is_open, ancestry_full, requested, opened, counted, first_of}
 use Rattle.board.specs.Sorting.{lookup, placed, sorted, distinct}
 use Rattle.board.specs.declared.ask.Ask.{Ask}
 use Rattle.board.specs.declared.ask.Ask.TheVariants.{Background, Ancestry}

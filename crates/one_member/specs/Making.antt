@@ -1,5 +1,5 @@
 -- The mask of a quorum.
-use Rattle.std.specs.Prelude.{◌≡◌, ℕ, ◌+◌, ◌^◌, ◌<◌, true}
+use Rattle.std.specs.Prelude.{◌≡◌, ◌+◌, ◌^◌, ◌<◌, true}
 use Rattle.orders.specs.declared.setup.Setup.{Setup}
 use Rattle.one_member.specs.declared.admitted.Admitted.{Admitted}
 use Rattle.terms.specs.Terms.{views}

@@ -1,8 +1,8 @@
 -- A board with no ask of either sort has none.
-use Rattle.std.proofs.Common.{◌≡◌, ℕ, ◌+◌, not, List, [], ◌∷◌, length, refl, ap, arith}
+use Rattle.std.proofs.Common.{◌≡◌, not, List, [], ◌∷◌, length, refl, ap, arith}
 use Rattle.std.proofs.lemmas.List.Filters.{length-filter_both}
 use Rattle.board.specs.Asks.{is_background}
-use Rattle.board.specs.Boards.{backgrounds, ancestries, counted}
+use Rattle.board.specs.Boards.{counted}
 use Rattle.board.specs.declared.board.Counts.{Counts}
 use Rattle.board.specs.declared.open.Open.{Open}
 

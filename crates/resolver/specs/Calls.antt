@@ -1,6 +1,6 @@
 -- What a call leaves: of the state, of the host's list of effects, and of the open asks.
-use Rattle.std.specs.Prelude.{◌≡◌, ℕ, Bool, true, false, cond, not, ◌&&◌, List, Option, Ok, Err, Result, nat_lt}
-use Rattle.board.specs.Boards.{ancestry_full, requested}
+use Rattle.std.specs.Prelude.{◌≡◌, ℕ, Bool, true, false, cond, not, ◌&&◌, List, Ok, Err, Result, nat_lt}
+use Rattle.board.specs.Boards.{ancestry_full}
 use Rattle.board.specs.declared.fault.Fault.TheVariants.{TooManyAsks}
 use Rattle.board.specs.declared.open.Open.{Open}
 use Rattle.effects.specs.declared.effect.Kind.{Kind as Ask}

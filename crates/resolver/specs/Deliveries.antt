@@ -1,8 +1,7 @@
 -- What comes of a delivery.
-use Rattle.std.specs.Prelude.{◌≡◌, ℕ, Bool, true, false, cond, not, ◌&&◌, ◌||◌, List, [], length, filter, Some, None, Option, Ok, Err, Result, ◌==◌, nat_le, nat_lt}
+use Rattle.std.specs.Prelude.{◌≡◌, ℕ, Bool, true, false, cond, ◌&&◌, List, [], length, filter, Some, None, Option, Ok, Err, Result, ◌==◌, nat_le, nat_lt}
 use Rattle.board.specs.Asks.{kind_of}
 use Rattle.board.specs.declared.ask.Ask.{Ask}
-use Rattle.board.specs.declared.open.Open.{Open}
 use Rattle.effects.specs.declared.listed.Effects.{Effects}
 use Rattle.effects.specs.Lists.{Listed}
 use Rattle.record.specs.declared.fault.Fault.{Fault as Misread}
@@ -13,7 +12,6 @@ use Rattle.resolver.specs.declared.fault.Fault.TheVariants.{State as OfState, Wr
 use Rattle.resolver.specs.declared.outcome.Delivered.{Delivered}
 use Rattle.resolver.specs.declared.outcome.Outcome.{Outcome}
 use Rattle.resolver.specs.declared.outcome.Outcome.TheVariants.{Ignored, Invalid, Unresolved, Partial, Complete, LetGo}
-use Rattle.resolver.specs.Calls.{Taken}
 use Rattle.state.specs.Answers.{Answer, is_notarization, too_few, evidence_answer}
 use Rattle.state.specs.Settled.{settled, key_settled}
 use Rattle.state.specs.declared.fault.Fault.TheVariants.{TooFewPlaces}

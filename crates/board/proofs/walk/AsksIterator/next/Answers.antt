@@ -1,4 +1,4 @@
-use Rattle.std.proofs.Common.{◌≡◌, ◌+◌, ◌^◌, ◌<◌, ◌∷◌, [], length, refl, sym, ap, ◌∙◌, rules, arith}
+use Rattle.std.proofs.Common.{◌+◌, ◌^◌, ◌<◌, ◌∷◌, length, refl, sym, ap, ◌∙◌, rules, arith}
 use Rattle.board.specs.Asks.{place}
 use Rattle.board.specs.Left.{from_next}
 use Rattle.board.proofs.Walking.{none_from, one_from, after}

@@ -1,6 +1,6 @@
-use Rattle.std.proofs.Common.{◌≡◌, ◌<◌, ◌≤◌, true, false, Some, None, is_some, refl, sym, ap, subst, ◌∙◌, arith, rules, length}
+use Rattle.std.proofs.Common.{◌≡◌, ◌<◌, ◌≤◌, true, false, None, is_some, refl, sym, ap, subst, ◌∙◌, rules, length}
 use Rattle.board.specs.Asks.{place, place_of}
-use Rattle.board.specs.Boards.{ancestry_full, requested, ancestries, counted, is_open}
+use Rattle.board.specs.Boards.{ancestries}
 use Rattle.board.specs.Sorting.{lookup, placed}
 use Rattle.board.specs.declared.ask.Ask.TheVariants.{Ancestry}
 use Rattle.list_board.specs.Lists.{entries, asks_of}

@@ -1,4 +1,4 @@
-use Rattle.std.proofs.Common.{arith, not, subst, filter, take, ◌≡◌, sym, ap, ◌∙◌}
+use Rattle.std.proofs.Common.{arith, not, subst, sym, ap, ◌∙◌}
 use Rattle.board.specs.Asks.{retires}
 use Rattle.board.specs.Sorting.{sorted}
 use Rattle.board.proofs.Laws.{filtered}

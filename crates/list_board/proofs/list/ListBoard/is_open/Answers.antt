@@ -1,4 +1,4 @@
-use Rattle.std.proofs.Common.{rules, ap, ◌∙◌, is_some}
+use Rattle.std.proofs.Common.{ap, ◌∙◌, is_some}
 use Rattle.list_board.specs.Lists.{entries}
 use Rattle.board.specs.Asks.{place}
 use Rattle.list_board.proofs.Entries.{found_by_position}

@@ -1,4 +1,4 @@
-use Rattle.std.proofs.Common.{rules, arith, ◌<◌, length}
+use Rattle.std.proofs.Common.{arith, ◌<◌, length}
 use Rattle.std.proofs.lemmas.List.{length-take-le, length-set}
 use Rattle.board.specs.declared.open.Open.{Open}
 use Rattle.list_board.specs.Lists.{entries}

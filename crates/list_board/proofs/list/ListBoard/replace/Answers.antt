@@ -1,4 +1,4 @@
-use Rattle.std.proofs.Common.{arith, take}
+use Rattle.std.proofs.Common.{arith}
 use Rattle.std.proofs.lemmas.List.{length-take-le, length-set}
 use Rattle.list_board.specs.Lists.{entries}
 use Rattle.list_board.specs.declared.list.ListBoard.{ListBoard}
