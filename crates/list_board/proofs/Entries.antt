@@ -2,9 +2,10 @@
 use Rattle.std.proofs.Common.{◌≡◌, ℕ, zero, suc, ◌+◌, ◌-◌, ◌<◌, ◌≤◌, Bool, true, false, cond, not, eqb, ltb, List, [], ◌∷◌, ◌++◌, length, take, set, get_or, is_some, Some, None, filter, Option, sym, refl, ap, ◌∙◌, inl, inr, arith}
 use Rattle.std.specs.List.{position, position_or_len}
 use Rattle.std.proofs.lemmas.List.Quantifiers.{position-Some}
-use Rattle.std.proofs.lemmas.Bool.{eqb-true, le-leb, lt-leb, cases_Bool, cases_lt, lt-ltb, le-ltb}
+use Rattle.std.proofs.lemmas.Bool.{eqb-true, le-leb, lt-leb, cases_Bool, cases_lt, lt-ltb, le-ltb, not-true}
 use Rattle.std.proofs.lemmas.List.{take_more, take_more_set}
 use Rattle.std.proofs.lemmas.List.Filters.{length-filter_both}
+use Rattle.std.proofs.Math.Seq.{take-set-lt}
 use Rattle.board.specs.Asks.{is_background, lower_of, place, place_of}
 use Rattle.board.specs.Boards.{backgrounds, ancestries, is_open, ancestry_full, requested, opened, counted, first_of}
 use Rattle.board.specs.Sorting.{lookup, placed, sorted, distinct}
@@ -41,20 +42,9 @@ found_by_position k os =
 take_push : (o : Open) (list : List Open) (n : ℕ) → n < length list → take (n + 1) (set list n o) ≡ take n list ++ o ∷ []
 take_push o list n h = take_more_set list n o h
 
--- and with one of them changed
-take_set : (o : Open) (list : List Open) (n i : ℕ) → i < n → take n (set list i o) ≡ set (take n list) i o
-take_set o list zero i h = absurd (omega arith)
-take_set o [] (suc n) i h = refl
-take_set o (x ∷ list) (suc n) zero h = refl
-take_set o (x ∷ list) (suc n) (suc i) h = ap (λ xs. x ∷ xs) (take_set o list n i (omega arith))
-
 -- how many there are of each sort, in all
 pub both_sorts : (os : List Open) → length (backgrounds os) + length (ancestries os) ≡ length os
 both_sorts os = length-filter_both (λ o. is_background o.ask) (λ o. not (is_background o.ask)) (λ _. refl) os
-
-not_true : (b : Bool) → not b ≡ true → b ≡ false
-not_true true t = absurd (cc)
-not_true false t = refl
 
 -- one more of a sort that has room
 few_push : (p : Open → Bool) (o : Open) (os : List Open) (n : ℕ) → length (filter p os) ≤ n → (p o ≡ true → length (filter p os) < n) → length (filter p (os ++ o ∷ [])) ≤ n
@@ -90,7 +80,7 @@ pub kept_push : (o : Open) (os : List Open) → Kept os → Room o os → Kept (
 kept_push o os k r = record {
   apart = (pushed o os k.apart r.absent).1;
   background_few = few_push (λ x. is_background x.ask) o os 256 k.background_few r.background;
-  ancestry_few = few_push (λ x. not (is_background x.ask)) o os 64 k.ancestry_few (λ t. r.ancestry (not_true (is_background o.ask) t));
+  ancestry_few = few_push (λ x. not (is_background x.ask)) o os 64 k.ancestry_few (λ t. r.ancestry (not-true (is_background o.ask) t));
 }
 
 pub pushed_list : (o : Open) (list : List Open) (n : ℕ) → n < length list → Kept (take n list) → Room o (take n list) → Kept (take (n + 1) (set list n o)) × (sorted (take (n + 1) (set list n o)) ≡ placed o (sorted (take n list)))
@@ -123,7 +113,7 @@ kept_set o os i k h e =
     (kept, r.0)
 
 pub set_list : (o : Open) (list : List Open) (n i : ℕ) → Kept (take n list) → i < length (take n list) → i < n → place_of (get_or (take n list) i o) ≡ place_of o → Kept (take n (set list i o)) × (sorted (take n (set list i o)) ≡ placed o (sorted (take n list)))
-set_list o list n i k h l e = rw (take_set o list n i l) (kept_set o (take n list) i k h e)
+set_list o list n i k h l e = rw (take-set-lt n list i o l) (kept_set o (take n list) i k h e)
 
 -- those that stay are no more
 few_filter : (p q : Open → Bool) (os : List Open) → length (filter p (filter q os)) ≤ length (filter p os)

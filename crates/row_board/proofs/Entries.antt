@@ -1,12 +1,14 @@
 -- What the rows of a board tell of its asks.
 use Rattle.std.proofs.Common.{◌≡◌, ℕ, zero, suc, ◌+◌, ◌-◌, ◌<◌, ◌≤◌, Bool, true, false, cond, not, ◌&&◌, ◌||◌, eqb, ltb, List, [], ◌∷◌, ◌++◌, length, take, drop, set, get_or, map, is_some, is_none, Some, None, filter, Option, sym, refl, ap, ◌∙◌, subst, inl, inr, arith}
 use Rattle.std.specs.List.{AllByRecursion as All}
-use Rattle.std.proofs.lemmas.List.{length-append, append_assoc, append-nil, take-append-le, take_all, get_or-append_right, get_or-take, length-take-le, take_more, take_more_set}
+use Rattle.std.proofs.lemmas.List.{length-append, append_assoc, append-nil, take-append-le, take_all, get_or-append_right, get_or-take, length-take-le, take_more, take_more_set, length-map}
 use Rattle.std.proofs.lemmas.List.Quantifiers.{position-Some}
 use Rattle.std.specs.List.{position, position_or_len}
 use Rattle.std.proofs.lemmas.List.Filters.{length-filter_both}
 use Rattle.std.proofs.lemmas.Option.{none-some}
-use Rattle.std.proofs.lemmas.Bool.{cases_Bool, cases_eq, cases_lt, lt-ltb, le-ltb, and_from, and_parts, eqb-true, eq-eqb, ne_eqb}
+use Rattle.std.proofs.lemmas.Bool.{cases_Bool, cases_eq, cases_lt, lt-ltb, le-ltb, and_from, and_parts, eqb-true, eq-eqb, ne_eqb, not-true}
+use Rattle.std.proofs.Math.Seq.{take-set-lt}
+use Rattle.std.proofs.lemmas.List.Elements.{filter-append}
 use Rattle.board.specs.Asks.{place, place_of, is_background, retires}
 use Rattle.board.specs.Boards.{opened, backgrounds, ancestries, retired, counted, first_of}
 use Rattle.board.specs.Sorting.{lookup, placed, sorted, distinct}
@@ -21,10 +23,6 @@ use Rattle.row_board.specs.Rows.{Fitting, fresh, has, is_bare, with_ask, closed,
 use Rattle.row_board.specs.Entries.{has_row, views_apart, none_bare, asks_of, closed_rows, nearer, nearest}
 use Rattle.row_board.specs.declared.row.Row.{Row}
 use Rattle.row_board.proofs.Parts.{same_view, or_found, lookup_append, under, over, lookup_with, all_asks, distinct_append, distinct_row, closed_asks, bare_asks, some_asks, has_found}
-
-not_true : (b : Bool) → not b ≡ true → b ≡ false
-not_true true t = absurd (cc)
-not_true false t = refl
 
 none_among : (k : ℕ) (os : List Open) → All (λ o. place_of o ≡ k → ⊥) os → lookup k os ≡ None
 unfolding lookup
@@ -60,7 +58,7 @@ pub distinct_rows : (rs : List Row) → views_apart rs ≡ true → distinct (as
 distinct_rows [] e = refl
 distinct_rows (r ∷ rs) e =
     let parts = and_parts (not (has_row r.view rs)) (views_apart rs) e in
-    distinct_append (asks_in r) (asks_of rs) (distinct_row r) (distinct_rows rs parts.1) (all_asks (λ o. lookup (place_of o) (asks_of rs) ≡ None) r (λ a t. no_row r.view a rs (not_true (has_row r.view rs) parts.0)))
+    distinct_append (asks_in r) (asks_of rs) (distinct_row r) (distinct_rows rs parts.1) (all_asks (λ o. lookup (place_of o) (asks_of rs) ≡ None) r (λ a t. no_row r.view a rs (not-true (has_row r.view rs) parts.0)))
 
 -- an ask that is opened in its view's row
 pub row_set : (k v : ℕ) (a : Ask) (t : Option ℕ) (rs : List Row) (i : ℕ) (d : Row) → Fitting a t → views_apart rs ≡ true → i < length rs → (get_or rs i d).view ≡ v → lookup k (asks_of (set rs i (with_ask a t (get_or rs i d)))) ≡ cond (eqb (place v a) k) (Some (opened v a t)) (lookup k (asks_of rs))
@@ -76,7 +74,7 @@ row_set k v a t (r ∷ rs) (suc i) d f e h q =
     let b = eqb (place v a) k in
     let s = get_or rs i d in
     let parts = and_parts (not (has_row r.view rs)) (views_apart rs) e in
-    let other : r.view ≡ v → ⊥ = λ w. at_row rs i d (omega arith) (subst (λ n. has_row n rs ≡ false) (w ∙ sym q) (not_true (has_row r.view rs) parts.0)) in
+    let other : r.view ≡ v → ⊥ = λ w. at_row rs i d (omega arith) (subst (λ n. has_row n rs ≡ false) (w ∙ sym q) (not-true (has_row r.view rs) parts.0)) in
     let none : b ≡ true → lookup k (asks_in r) ≡ None = λ y. subst (λ n. lookup n (asks_in r) ≡ None) (eqb-true (place v a) k y) (other_row v a r other) in
     lookup_append k (asks_in r) (asks_of (set rs i (with_ask a t s)))
     ∙ (ap (or_found (lookup k (asks_in r))) (row_set k v a t rs i d f parts.1 (omega arith) q)
@@ -162,24 +160,19 @@ pub rows_few : (rs : List Row) → none_bare rs ≡ true → length rs ≤ lengt
 rows_few [] e = omega arith
 rows_few (r ∷ rs) e =
     let parts = and_parts (not (is_bare r)) (none_bare rs) e in
-    omega (arith, length-append (asks_in r) (asks_of rs), some_asks r (not_true (is_bare r) parts.0), rows_few rs parts.1)
+    omega (arith, length-append (asks_in r) (asks_of rs), some_asks r (not-true (is_bare r) parts.0), rows_few rs parts.1)
 
 pub bare_with : (a : Ask) (t : Option ℕ) (r : Row) → is_bare (with_ask a t r) ≡ false
 bare_with Background t r = refl
 bare_with (Ancestry Nullification) t r = elim (cases_Bool (not r.background)) [ inl y ↦ rw y refl | inr n ↦ rw n refl ]
 bare_with (Ancestry Notarization) t r = elim (cases_Bool (not r.background)) [ inl y ↦ rw y (elim (cases_Bool (is_none r.nullification)) [ inl u ↦ rw u refl | inr w ↦ rw w refl ]) | inr n ↦ rw n refl ]
 
--- what stays of rows has the asks that stay
-filter_append : (p : Open → Bool) (xs ys : List Open) → filter p (xs ++ ys) ≡ filter p xs ++ filter p ys
-filter_append p [] ys = refl
-filter_append p (x ∷ xs) ys = elim (cases_Bool (p x)) [ inl t ↦ rw t (ap (λ zs. x ∷ zs) (filter_append p xs ys)) | inr f ↦ rw f (filter_append p xs ys) ]
-
 pub close_asks : (q : Retire) (rs : List Row) → asks_of (closed_rows q rs) ≡ filter (λ o. not (retires q o)) (asks_of rs)
 close_asks q [] = refl
 close_asks q (r ∷ rs) =
     let p : Open → Bool = λ o. not (retires q o) in
     let more = close_asks q rs in
-    let split = filter_append p (asks_in r) (asks_of rs) in
+    let split = filter-append p (asks_in r) (asks_of rs) in
     elim (cases_Bool (is_bare (closed q r))) [
       | inl t ↦ rw t (more ∙ (ap (λ xs. xs ++ filter p (asks_of rs)) (sym (bare_asks (closed q r) t) ∙ closed_asks q r) ∙ sym split))
       | inr f ↦ rw f (ap (λ xs. xs ++ asks_of (closed_rows q rs)) (closed_asks q r) ∙ (ap (λ xs. filter p (asks_in r) ++ xs) more ∙ sym split))
@@ -201,7 +194,7 @@ views_closed q (r ∷ rs) e =
     let more = views_closed q rs parts.1 in
     elim (cases_Bool (is_bare (closed q r))) [
       | inl t ↦ rw t more
-      | inr f ↦ rw f (rw (has_closed q r.view rs (not_true (has_row r.view rs) parts.0)) more)
+      | inr f ↦ rw f (rw (has_closed q r.view rs (not-true (has_row r.view rs) parts.0)) more)
     ]
 
 pub full_closed : (q : Retire) (rs : List Row) → none_bare (closed_rows q rs) ≡ true
@@ -218,7 +211,7 @@ all_ancestry v d None = refl
 all_ancestry v d (Some t) = refl
 
 length_filters : (p : Open → Bool) (xs ys : List Open) → length (filter p (xs ++ ys)) ≡ length (filter p xs) + length (filter p ys)
-length_filters p xs ys = ap length (filter_append p xs ys) ∙ length-append (filter p xs) (filter p ys)
+length_filters p xs ys = ap length (filter-append p xs ys) ∙ length-append (filter p xs) (filter p ys)
 
 background_in : (r : Row) → length (backgrounds (asks_in r)) ≡ cond r.background 1 0
 unfolding asks_in
@@ -289,12 +282,12 @@ pub in_row : (v : ℕ) (a : Ask) (rs : List Row) (i : ℕ) (d : Row) → views_a
 in_row v a [] i d e h q = absurd (omega arith)
 in_row v a (r ∷ rs) zero d e h q =
     let parts = and_parts (not (has_row r.view rs)) (views_apart rs) e in
-    let rest : lookup (place v a) (asks_of rs) ≡ None = subst (λ w. lookup (place w a) (asks_of rs) ≡ None) q (no_row r.view a rs (not_true (has_row r.view rs) parts.0)) in
+    let rest : lookup (place v a) (asks_of rs) ≡ None = subst (λ w. lookup (place w a) (asks_of rs) ≡ None) q (no_row r.view a rs (not-true (has_row r.view rs) parts.0)) in
     ap is_some (lookup_append (place v a) (asks_in r) (asks_of rs) ∙ (ap (or_found (lookup (place v a) (asks_in r))) rest ∙ same_found_or (lookup (place v a) (asks_in r))))
     ∙ subst (λ w. is_some (lookup (place w a) (asks_in r)) ≡ has a r) q (has_found a r)
 in_row v a (r ∷ rs) (suc i) d e h q =
     let parts = and_parts (not (has_row r.view rs)) (views_apart rs) e in
-    let other : r.view ≡ v → ⊥ = λ w. at_row rs i d (omega arith) (subst (λ n. has_row n rs ≡ false) (w ∙ sym q) (not_true (has_row r.view rs) parts.0)) in
+    let other : r.view ≡ v → ⊥ = λ w. at_row rs i d (omega arith) (subst (λ n. has_row n rs ≡ false) (w ∙ sym q) (not-true (has_row r.view rs) parts.0)) in
     ap is_some (lookup_append (place v a) (asks_in r) (asks_of rs) ∙ ap (λ f. or_found f (lookup (place v a) (asks_of rs))) (other_row v a r other)) ∙ in_row v a rs i d parts.1 (omega arith) q
 
 -- how many rows pass, after one is changed
@@ -481,33 +474,21 @@ room_in_order v a rs e b c =
       ancestry = λ t f. omega (arith, c t (same ∙ f), counted_alike (λ o. not (is_background o.ask)) (asks_of rs) d);
     }
 
--- the rows of the first places, changed
-take_set : (r : Row) (rows : List Row) (n i : ℕ) → i < n → take n (set rows i r) ≡ set (take n rows) i r
-take_set r rows zero i h = absurd (omega arith)
-take_set r [] (suc n) i h = refl
-take_set r (x ∷ rows) (suc n) zero h = refl
-take_set r (x ∷ rows) (suc n) (suc i) h = ap (λ xs. x ∷ xs) (take_set r rows n i (omega arith))
-
 pub set_rows : (v : ℕ) (a : Ask) (t : Option ℕ) (rows : List Row) (n i : ℕ) (d : Row) → n ≤ length rows → Fitting a t → Kept (take n rows) → Room v a (take n rows) → position (λ r. eqb r.view v) (take n rows) ≡ Some i → Kept (take n (set rows i (with_ask a t (get_or rows i d)))) × (sorted (asks_of (take n (set rows i (with_ask a t (get_or rows i d))))) ≡ placed (opened v a t) (sorted (asks_of (take n rows))))
 set_rows v a t rows n i d le f k r p =
     let w = row_found v (take n rows) i d p in
     let low : i < n = omega (arith, w.0, length-take-le n rows le) in
     let same : get_or (take n rows) i d ≡ get_or rows i d = get_or-take n rows i d low in
     subst (λ x. Kept (take n (set rows i (with_ask a t x))) × (sorted (asks_of (take n (set rows i (with_ask a t x)))) ≡ placed (opened v a t) (sorted (asks_of (take n rows))))) same
-    (rw (take_set (with_ask a t (get_or (take n rows) i d)) rows n i low) (opened_in_row v a t (take n rows) i d f k r w.0 w.1))
+    (rw (take-set-lt n rows i (with_ask a t (get_or (take n rows) i d)) low) (opened_in_row v a t (take n rows) i d f k r w.0 w.1))
 
 pub push_rows : (v : ℕ) (a : Ask) (t : Option ℕ) (rows : List Row) (n : ℕ) → n < length rows → Fitting a t → Kept (take n rows) → Room v a (take n rows) → position (λ r. eqb r.view v) (take n rows) ≡ None → Kept (take (n + 1) (set rows n (with_ask a t (fresh v)))) × (sorted (asks_of (take (n + 1) (set rows n (with_ask a t (fresh v))))) ≡ placed (opened v a t) (sorted (asks_of (take n rows))))
 push_rows v a t rows n h f k r p = rw (take_more_set rows n (with_ask a t (fresh v)) h) (opened_behind v a t (take n rows) f k r (row_absent v (take n rows) p))
 
--- what stays of the rows of the first places
-length_mapped : (f : Row → Row) (rs : List Row) → length (map f rs) ≡ length rs
-length_mapped f [] = refl
-length_mapped f (r ∷ rs) = ap suc (length_mapped f rs)
-
 pub closing : (q : Retire) (rows : List Row) (n : ℕ) → n ≤ length rows → take n (map (closed q) (take n rows) ++ drop n rows) ≡ map (closed q) (take n rows)
 closing q rows n h =
     let m = map (closed q) (take n rows) in
-    let long : length m ≡ n = length_mapped (closed q) (take n rows) ∙ length-take-le n rows h in
+    let long : length m ≡ n = length-map (take n rows) (closed q) ∙ length-take-le n rows h in
     take-append-le n m (drop n rows) (omega (arith, long)) ∙ take_all n m (omega (arith, long))
 
 few_filter : (p q : Open → Bool) (os : List Open) → length (filter p (filter q os)) ≤ length (filter p os)
@@ -548,7 +529,7 @@ views_take [] (suc n) e = refl
 views_take (r ∷ rs) zero e = refl
 views_take (r ∷ rs) (suc n) e =
     let parts = and_parts (not (has_row r.view rs)) (views_apart rs) e in
-    and_from (not (has_row r.view (take n rs))) (views_apart (take n rs)) (ap not (absent_take r.view rs n (not_true (has_row r.view rs) parts.0))) (views_take rs n parts.1)
+    and_from (not (has_row r.view (take n rs))) (views_apart (take n rs)) (ap not (absent_take r.view rs n (not-true (has_row r.view rs) parts.0))) (views_take rs n parts.1)
 
 pub first_more : (p : Open → Bool) (rs : List Row) (i : ℕ) (d : Row) → views_apart rs ≡ true → i < length rs → first_of (filter p (sorted (asks_of (take (i + 1) rs)))) ≡ nearest p (first_of (filter p (sorted (asks_of (take i rs))))) (asks_in (get_or rs i d))
 first_more p rs i d e h =

@@ -3,7 +3,8 @@ use Rattle.std.proofs.Common.{◌≡◌, ℕ, ◌<◌, ◌≤◌, Bool, true, fa
 use Rattle.std.specs.List.{AllByRecursion as All}
 use Rattle.std.proofs.ByRecursion.{All-append}
 use Rattle.std.proofs.lemmas.List.{length-append}
-use Rattle.std.proofs.lemmas.Bool.{cases_Bool, cases_eq, and_from, and_parts, eqb-true, eq-eqb, ne_eqb}
+use Rattle.std.proofs.lemmas.Bool.{cases_Bool, cases_eq, and_from, and_parts, eqb-true, eq-eqb, ne_eqb, not-true}
+use Rattle.std.proofs.lemmas.List.Elements.{filter-append}
 use Rattle.board.specs.Asks.{rank, place, place_of, retires}
 use Rattle.board.specs.Boards.{opened}
 use Rattle.board.specs.Sorting.{lookup, distinct}
@@ -165,11 +166,6 @@ distinct_row r =
     let two : distinct (nul ++ notar) ≡ true = distinct_append nul notar (distinct_one r.view Nullification r.nullification) (distinct_one r.view Notarization r.notarization) (ancestry_all_of r) in
     distinct_append (part Background r) (nul ++ notar) (distinct_background r) two (background_all_of r)
 
--- the asks that stay
-filter_append : (p : Open → Bool) (xs ys : List Open) → filter p (xs ++ ys) ≡ filter p xs ++ filter p ys
-filter_append p [] ys = refl
-filter_append p (x ∷ xs) ys = elim (cases_Bool (p x)) [ inl t ↦ rw t (ap (λ zs. x ∷ zs) (filter_append p xs ys)) | inr f ↦ rw f (filter_append p xs ys) ]
-
 ancestry_stays : (q : Retire) (v : ℕ) (d : Kind) (m : Option (Option ℕ)) → ancestry_of v d (kept_target q v d m) ≡ filter (λ o. not (retires q o)) (ancestry_of v d m)
 ancestry_stays q v d None = refl
 ancestry_stays q v d (Some t) = elim (cases_Bool (retires q (opened v (Ancestry d) t))) [ inl y ↦ rw y refl | inr n ↦ rw n refl ]
@@ -190,11 +186,7 @@ closed_asks q r =
     ap (λ xs. xs ++ (part (Ancestry Nullification) (closed q r) ++ part (Ancestry Notarization) (closed q r))) (background_stays q r)
     ∙ (ap (λ xs. filter p b ++ (xs ++ part (Ancestry Notarization) (closed q r))) (ancestry_stays q r.view Nullification r.nullification)
     ∙ (ap (λ xs. filter p b ++ (filter p n ++ xs)) (ancestry_stays q r.view Notarization r.notarization)
-    ∙ (ap (λ xs. filter p b ++ xs) (sym (filter_append p n m)) ∙ sym (filter_append p b (n ++ m)))))
-
-not_true : (b : Bool) → not b ≡ true → b ≡ false
-not_true true t = absurd (cc)
-not_true false t = refl
+    ∙ (ap (λ xs. filter p b ++ xs) (sym (filter-append p n m)) ∙ sym (filter-append p b (n ++ m)))))
 
 none_of : (m : Option (Option ℕ)) → is_none m ≡ true → m ≡ None
 none_of None t = refl
@@ -206,7 +198,7 @@ unfolding asks_in
 bare_asks r e =
     let parts = and_parts (not r.background) (is_none r.nullification && is_none r.notarization) e in
     let more = and_parts (is_none r.nullification) (is_none r.notarization) parts.1 in
-    let b : r.background ≡ false = not_true r.background parts.0 in
+    let b : r.background ≡ false = not-true r.background parts.0 in
     rw b (rw (none_of r.nullification more.0) (rw (none_of r.notarization more.1) refl))
 
 some_of : (v : ℕ) (d : Kind) (m : Option (Option ℕ)) → is_none m ≡ false → 1 ≤ length (ancestry_of v d m)
