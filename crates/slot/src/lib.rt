@@ -45,4 +45,15 @@ impl<'a, T: Copy> Slot<'a, T> {
         self.full = true;
         true
     }
+
+    /// Takes out what it holds.
+    pub fn take(&mut self) -> Option<T>
+        ensures taken { result ≡ held self.old }
+        ensures empty { held self.new ≡ None }
+        ensures place { self.new.place.now ≡ self.old.place.now }
+    {
+        let taken = self.get();
+        self.full = false;
+        taken
+    }
 }

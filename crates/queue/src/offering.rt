@@ -1,0 +1,125 @@
+ghost use Rattle.std.specs.Prelude.{◌≡◌, ◌<◌, ◌≤◌, [], length, take, filter, None, true, Err, Ok, cond};
+ghost use Rattle.slot.specs.Slots.{held};
+ghost use Rattle.queue.specs.Messages.{is_finalization, stays_past};
+ghost use Rattle.queue.specs.Queues.{is_outdated, finalized, is_full, appended, is_repeated, merged, offered, offer_answer};
+ghost use Rattle.queue.specs.Pendings.{waiting_of, queue_of};
+
+use crate::{Fault, Lent, Message, PLACES, Pending};
+use slot::Slot;
+use views::View;
+
+/// Moves the messages that stay past a view to the front of the first `len`, and returns how many these are.
+fn retain<P: Copy>(messages: &mut [Message<P>], len: usize, view: View) -> usize
+    requires { len ≤ length messages.old }
+    ensures kept { take result messages.new ≡ filter (λ m. stays_past view m) (take len messages.old) }
+    ensures fewer { result ≤ len }
+{
+    let mut kept = 0;
+    for i in 0..len {
+        let message = messages[i];
+        if message.stays_past(view) {
+            messages[kept] = message;
+            kept += 1;
+        }
+    }
+    kept
+}
+
+impl<'a, P: Copy> Pending<'a, P> {
+    /// The empty queue.
+    pub fn new(lent: Lent<'a, P>) -> Pending<'a, P>
+        ensures { queue_of result ≡ record { finalization = None; messages = [] } }
+    {
+        let Lent {
+            finalization,
+            messages,
+        } = lent;
+        Pending {
+            finalization: Slot::new(finalization),
+            messages,
+            len: 0,
+        }
+    }
+
+    /// The messages that wait, in the order in which they came.
+    fn as_slice(&self) -> &[Message<P>]
+        ensures { result.now ≡ waiting_of self.now }
+    {
+        &self.messages[..self.len]
+    }
+
+    /// Whether a view is at or below the held finalization.
+    fn is_outdated(&self, view: View) -> bool
+        ensures { result ≡ is_outdated view (held self.now.finalization) }
+    {
+        match self.finalization.get() {
+            Some(finalization) => finalization.view() >= view,
+            None => false,
+        }
+    }
+
+    /// Holds a finalization, and drops what it settles.
+    fn finalize(&mut self, message: Message<P>)
+        ensures { queue_of self.new ≡ finalized message (queue_of self.old) }
+    {
+        let len = self.len;
+        // Until they are moved, none counts.
+        self.len = 0;
+        self.len = retain(self.messages, len, message.view());
+        self.finalization.put(message);
+    }
+
+    /// Whether a message that waits says the same; a request with no target clears that one's target.
+    fn merge(&mut self, message: Message<P>) -> bool
+        ensures found { result ≡ is_repeated message (waiting_of self.old) }
+        ensures queue { queue_of self.new ≡ record { finalization = held self.old.finalization; messages = merged message (waiting_of self.old) } }
+    {
+        let Some(at) = self
+            .as_slice()
+            .iter()
+            .position(|waiting| message.repeats(waiting))
+        else {
+            return false;
+        };
+        if message.asks_all() {
+            let waiting = self.messages[at];
+            self.messages[at] = waiting.widened();
+        }
+        true
+    }
+
+    /// Puts a message behind the others.
+    fn append(&mut self, message: Message<P>) -> Result<(), Fault>
+        ensures answer { result ≡ (cond (is_full (queue_of self.old)) (Err Fault.Full) (Ok tt)) }
+        ensures queue { queue_of self.new ≡ appended message (queue_of self.old) }
+    {
+        let len = self.len;
+        if len == PLACES {
+            return Err(Fault::Full);
+        }
+        self.messages[len] = message;
+        self.len = len + 1;
+        Ok(())
+    }
+
+    /// Offers a message.
+    pub fn handle(&mut self, message: Message<P>) -> Result<(), Fault>
+        ensures answer { result ≡ offer_answer message (queue_of self.old) }
+        ensures queue { queue_of self.new ≡ offered message (queue_of self.old) }
+    {
+        if message.is_marker() {
+            return self.append(message);
+        }
+        if self.is_outdated(message.view()) {
+            return Ok(());
+        }
+        if message.is_finalization() {
+            self.finalize(message);
+            return Ok(());
+        }
+        if self.merge(message) {
+            return Ok(());
+        }
+        self.append(message)
+    }
+}

@@ -1,0 +1,19 @@
+ghost use Rattle.std.specs.Prelude.{◌≤◌, length};
+ghost use Rattle.slot.specs.Slots.{places};
+
+use crate::Message;
+use slot::Slot;
+
+/// How many messages may wait, beside a finalization.
+pub const PLACES: usize = 64;
+
+/// Messages that wait for a resolver, in memory that a host lends.
+#[derive(Drop)]
+pub struct Pending<'a, P> {
+    pub(crate) finalization: Slot<'a, Message<P>>,
+    pub(crate) messages: &'a mut [Message<P>],
+    pub(crate) len: usize,
+    ghost place: { 1 ≤ places finalization },
+    ghost enough: { 64 ≤ length messages.now },
+    ghost few: { len ≤ 64 },
+}
