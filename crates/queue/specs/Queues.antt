@@ -1,5 +1,5 @@
 -- What waits, and what offering and emptying make of it.
-use Rattle.std.specs.Prelude.{ℕ, ◌-◌, ◌==◌, Bool, true, false, cond, not, ◌&&◌, List, [], ◌∷◌, ◌++◌, length, take, drop, filter, is_some, Option, Some, None, Result, Ok, Err, nat_le, slice_set, slice_index_or}
+use Rattle.std.specs.Prelude.{ℕ, ◌-◌, ◌==◌, Bool, true, false, cond, not, ◌&&◌, ◌||◌, List, [], ◌∷◌, ◌++◌, length, take, drop, filter, is_some, Option, Some, None, Result, Ok, Err, nat_le, slice_set, slice_index_or}
 use Rattle.std.specs.List.{position}
 use Rattle.record.specs.declared.kind.Kind.TheVariants.{Finalization}
 use Rattle.queue.specs.declared.fault.Fault.{Fault}
@@ -17,6 +17,16 @@ pub record Queue (P : Type 0) : Type 0 where
 abbrev pub is_outdated : {P : Type 0} → ℕ → Option (Message P) → Bool
 is_outdated v None = false
 is_outdated v (Some f) = nat_le v (view_of f)
+
+-- what is held is a finalization
+abbrev pub is_proper : {P : Type 0} → Option (Message P) → Bool
+is_proper None = true
+is_proper (Some f) = is_finalization f
+
+-- whether what is held lets a message wait
+abbrev pub is_past : {P : Type 0} → Option (Message P) → Message P → Bool
+is_past None m = true
+is_past (Some f) m = stays_past (view_of f) m
 
 -- a finalization takes its place, and what it settles waits no more
 abbrev pub finalized : {P : Type 0} → Message P → Queue P → Queue P

@@ -8,7 +8,11 @@ use views::View;
 #[derive(Clone, Copy)]
 pub enum Message<P> {
     /// A certificate was received or made.
-    Updated { kind: Kind, view: View, payload: P },
+    Updated {
+        kind: Kind,
+        view: View,
+        payload: P,
+    },
     /// Whether a certificate's proposal passed.
     Certified {
         kind: Kind,
@@ -86,7 +90,8 @@ impl<P: Copy> Message<P> {
             (
                 Message::Certified { view, .. },
                 Message::Certified {
-                    view: other_view, ..
+                    view: other_view,
+                    ..
                 },
             ) => view == other_view,
             (

@@ -1,7 +1,7 @@
 ghost use Rattle.std.specs.Prelude.{◌≡◌, ◌<◌, ◌≤◌, [], length, take, filter, None, true, Err, Ok, cond};
 ghost use Rattle.slot.specs.Slots.{held};
 ghost use Rattle.queue.specs.Messages.{is_finalization, stays_past};
-ghost use Rattle.queue.specs.Queues.{is_outdated, finalized, is_full, appended, is_repeated, merged, offered, offer_answer};
+ghost use Rattle.queue.specs.Queues.{is_outdated, finalized, is_full, appended, is_past, place_of, is_repeated, merged, offered, offer_answer};
 ghost use Rattle.queue.specs.Pendings.{waiting_of, queue_of};
 
 use crate::{Fault, Lent, Message, PLACES, Pending};
@@ -60,6 +60,7 @@ impl<'a, P: Copy> Pending<'a, P> {
 
     /// Holds a finalization, and drops what it settles.
     fn finalize(&mut self, message: Message<P>)
+        requires { is_finalization message ≡ true }
         ensures { queue_of self.new ≡ finalized message (queue_of self.old) }
     {
         let len = self.len;
@@ -69,16 +70,21 @@ impl<'a, P: Copy> Pending<'a, P> {
         self.finalization.put(message);
     }
 
+    /// Where a message waits that says the same.
+    fn find(&self, message: &Message<P>) -> Option<usize>
+        ensures { result ≡ place_of message.now (waiting_of self.now) }
+    {
+        self.as_slice()
+            .iter()
+            .position(|waiting| message.repeats(waiting))
+    }
+
     /// Whether a message that waits says the same; a request with no target clears that one's target.
     fn merge(&mut self, message: Message<P>) -> bool
         ensures found { result ≡ is_repeated message (waiting_of self.old) }
         ensures queue { queue_of self.new ≡ record { finalization = held self.old.finalization; messages = merged message (waiting_of self.old) } }
     {
-        let Some(at) = self
-            .as_slice()
-            .iter()
-            .position(|waiting| message.repeats(waiting))
-        else {
+        let Some(at) = self.find(&message) else {
             return false;
         };
         if message.asks_all() {
@@ -90,6 +96,7 @@ impl<'a, P: Copy> Pending<'a, P> {
 
     /// Puts a message behind the others.
     fn append(&mut self, message: Message<P>) -> Result<(), Fault>
+        requires { is_past (held self.old.finalization) message ≡ true }
         ensures answer { result ≡ (cond (is_full (queue_of self.old)) (Err Fault.Full) (Ok tt)) }
         ensures queue { queue_of self.new ≡ appended message (queue_of self.old) }
     {
@@ -103,6 +110,7 @@ impl<'a, P: Copy> Pending<'a, P> {
     }
 
     /// Offers a message.
+    #[tactic(auto, using(crate::proofs::Offers::offered_steps, crate::proofs::Offers::marker_past, crate::proofs::Offers::newer_past))]
     pub fn handle(&mut self, message: Message<P>) -> Result<(), Fault>
         ensures answer { result ≡ offer_answer message (queue_of self.old) }
         ensures queue { queue_of self.new ≡ offered message (queue_of self.old) }

@@ -1,5 +1,7 @@
-ghost use Rattle.std.specs.Prelude.{◌≤◌, length};
-ghost use Rattle.slot.specs.Slots.{places};
+ghost use Rattle.std.specs.Prelude.{◌≡◌, ◌≤◌, true, length, take};
+ghost use Rattle.std.specs.List.{All};
+ghost use Rattle.slot.specs.Slots.{held, places};
+ghost use Rattle.queue.specs.Queues.{is_proper, is_past};
 
 use crate::Message;
 use slot::Slot;
@@ -16,4 +18,6 @@ pub struct Pending<'a, P> {
     ghost place: { 1 ≤ places finalization },
     ghost enough: { 64 ≤ length messages.now },
     ghost few: { len ≤ 64 },
+    ghost proper: { is_proper (held finalization) ≡ true },
+    ghost past: { All (λ m. is_past (held finalization) m ≡ true) (take len messages.now) },
 }

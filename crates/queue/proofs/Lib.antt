@@ -1,0 +1,2 @@
+pub mod Gone
+pub mod Offers
