@@ -1,6 +1,6 @@
 -- What an offer makes of a queue, test by test.
-use Rattle.std.proofs.Common.{◌≡◌, ℕ, ◌+◌, ◌<◌, ◌≤◌, Bool, true, false, cond, is_some, Some, None, Option, List, length, take, set, filter, get_or, refl, sym, ap, subst, ◌∙◌, inl, inr, arith, rules, not, ◌||◌}
-use Rattle.std.specs.List.{All, position}
+use Rattle.std.proofs.Common.{◌≡◌, ℕ, ◌<◌, true, false, cond, is_some, Some, None, Option, List, length, take, set, filter, get_or, refl, sym, ap, ◌∙◌, inl, inr, arith}
+use Rattle.std.specs.List.{All}
 use Rattle.std.proofs.lemmas.Bool.{cases_Bool, leb-false, lt-ltb}
 use Rattle.std.proofs.lemmas.List.{get_or-take, get_or_default, length-take}
 use Rattle.std.proofs.lemmas.List.Elements.{All-set, All-get_or, filter_passes}
@@ -10,7 +10,7 @@ use Rattle.record.specs.declared.kind.Kind.TheVariants.{Notarization, Nullificat
 use Rattle.queue.specs.declared.message.Message.{Message}
 use Rattle.queue.specs.declared.message.Message.TheVariants.{Updated, Certified, Resolve, Replayed}
 use Rattle.queue.specs.Messages.{view_of, is_marker, is_finalization, stays_past, repeats, asks_all, widened}
-use Rattle.queue.specs.Queues.{Queue, is_outdated, is_past, finalized, appended, place_of, is_repeated, merged, joined, offered}
+use Rattle.queue.specs.Queues.{Queue, is_outdated, may_wait, finalized, appended, found_at, is_repeated, merged, joined, offered}
 
 pub offered_steps : {P : Type 0} (m : Message P) (q : Queue P) → offered m q ≡ cond (is_marker m) (appended m q) (cond (is_outdated (view_of m) q.finalization) q (cond (is_finalization m) (finalized m q) (joined m q)))
 offered_steps (Updated Notarization v p) q = refl
@@ -21,22 +21,22 @@ offered_steps (Resolve w v k t) q = refl
 offered_steps Replayed q = refl
 
 -- what may wait beside what is held
-pub marker_past : {P : Type 0} (h : Option (Message P)) (m : Message P) → is_marker m ≡ true → is_past h m ≡ true
-marker_past None m e = refl
-marker_past (Some f) m e = rw e refl
+pub marker_may_wait : {P : Type 0} (h : Option (Message P)) (m : Message P) → is_marker m ≡ true → may_wait h m ≡ true
+marker_may_wait None m e = refl
+marker_may_wait (Some f) m e = rw e refl
 
-pub newer_past : {P : Type 0} (h : Option (Message P)) (m : Message P) → is_outdated (view_of m) h ≡ false → is_past h m ≡ true
-newer_past None m e = refl
-newer_past (Some f) m e =
+pub newer_may_wait : {P : Type 0} (h : Option (Message P)) (m : Message P) → is_outdated (view_of m) h ≡ false → may_wait h m ≡ true
+newer_may_wait None m e = refl
+newer_may_wait (Some f) m e =
     let newer = lt-ltb (view_of f) (view_of m) (leb-false (view_of m) (view_of f) e) in
     elim (cases_Bool (is_marker m)) [ inl t ↦ rw t refl | inr n ↦ rw n newer ]
 
 -- a message that is not repeated
-pub new_place : {P : Type 0} (m : Message P) (ms : List (Message P)) → place_of m ms ≡ None → (is_repeated m ms ≡ false) × (merged m ms ≡ ms)
+pub new_place : {P : Type 0} (m : Message P) (ms : List (Message P)) → found_at m ms ≡ None → (is_repeated m ms ≡ false) × (merged m ms ≡ ms)
 new_place m ms e = (ap is_some e, rw e (elim (cases_Bool (asks_all m)) [ inl t ↦ rw t refl | inr f ↦ rw f refl ]))
 
 -- one that changes nothing
-pub same_place : {P : Type 0} (m : Message P) (ms : List (Message P)) (i : ℕ) → place_of m ms ≡ Some i → asks_all m ≡ false → (is_repeated m ms ≡ true) × (merged m ms ≡ ms)
+pub same_place : {P : Type 0} (m : Message P) (ms : List (Message P)) (i : ℕ) → found_at m ms ≡ Some i → asks_all m ≡ false → (is_repeated m ms ≡ true) × (merged m ms ≡ ms)
 same_place m ms i e f = (ap is_some e, rw f refl)
 
 same_element : {X : Type 0} (n : ℕ) (list : List X) (i : ℕ) (x y : X) → i < length (take n list) → get_or list i x ≡ get_or (take n list) i y
@@ -46,7 +46,7 @@ same_element n list i x y h =
     get_or_default list i x y long ∙ sym (get_or-take n list i y within)
 
 -- one that clears a target
-pub wider_place : {P : Type 0} (m : Message P) (n : ℕ) (list : List (Message P)) (i : ℕ) (x w : Message P) → place_of m (take n list) ≡ Some i → asks_all m ≡ true → w ≡ widened (get_or list i x) → (is_repeated m (take n list) ≡ true) × (take n (set list i w) ≡ merged m (take n list))
+pub wider_place : {P : Type 0} (m : Message P) (n : ℕ) (list : List (Message P)) (i : ℕ) (x w : Message P) → found_at m (take n list) ≡ Some i → asks_all m ≡ true → w ≡ widened (get_or list i x) → (is_repeated m (take n list) ≡ true) × (take n (set list i w) ≡ merged m (take n list))
 wider_place m n list i x w e t is =
     let ms = take n list in
     let found = position-Some (λ o. repeats m o) ms i m e in
@@ -54,21 +54,21 @@ wider_place m n list i x w e t is =
     let written : w ≡ widened (get_or ms i m) = is ∙ ap widened (same_element n list i x m found.0) in
     (ap is_some e, take-set-lt n list i w within ∙ rw t (rw e (ap (λ y. set ms i y) written)))
 
-widened_past : {P : Type 0} (h : Option (Message P)) (m : Message P) → is_past h (widened m) ≡ is_past h m
+pub widened_past : {P : Type 0} (h : Option (Message P)) (m : Message P) → may_wait h (widened m) ≡ may_wait h m
 widened_past None m = refl
 widened_past (Some f) (Updated k v p) = refl
 widened_past (Some f) (Certified k v s p) = refl
 widened_past (Some f) (Resolve w v k t) = refl
 widened_past (Some f) Replayed = refl
 
-pub wider_past : {P : Type 0} (h : Option (Message P)) (m : Message P) (n : ℕ) (list : List (Message P)) (i : ℕ) (x w : Message P) → place_of m (take n list) ≡ Some i → w ≡ widened (get_or list i x) → All (λ o. is_past h o ≡ true) (take n list) → All (λ o. is_past h o ≡ true) (take n (set list i w))
+pub wider_past : {P : Type 0} (h : Option (Message P)) (m : Message P) (n : ℕ) (list : List (Message P)) (i : ℕ) (x w : Message P) → found_at m (take n list) ≡ Some i → w ≡ widened (get_or list i x) → All (λ o. may_wait h o ≡ true) (take n list) → All (λ o. may_wait h o ≡ true) (take n (set list i w))
 wider_past h m n list i x w e is past =
     let ms = take n list in
     let found = position-Some (λ o. repeats m o) ms i m e in
     let within : i < n = omega (arith, found.0, length-take n list) in
-    let own : is_past h w ≡ true = ap (is_past h) is ∙ widened_past h (get_or list i x) ∙ ap (is_past h) (same_element n list i x m found.0) ∙ All-get_or (λ o. is_past h o ≡ true) ms i m found.0 past in
-    rw (take-set-lt n list i w within) (All-set (λ o. is_past h o ≡ true) ms i w own past)
+    let own : may_wait h w ≡ true = ap (may_wait h) is ∙ widened_past h (get_or list i x) ∙ ap (may_wait h) (same_element n list i x m found.0) ∙ All-get_or (λ o. may_wait h o ≡ true) ms i m found.0 past in
+    rw (take-set-lt n list i w within) (All-set (λ o. may_wait h o ≡ true) ms i w own past)
 
 -- what stays beside a new finalization
-pub kept_past : {P : Type 0} (m : Message P) (h : Option (Message P)) (v : ℕ) (ms kept : List (Message P)) → h ≡ Some m → v ≡ view_of m → kept ≡ filter (λ o. stays_past v o) ms → All (λ o. is_past h o ≡ true) kept
+pub kept_past : {P : Type 0} (m : Message P) (h : Option (Message P)) (v : ℕ) (ms kept : List (Message P)) → h ≡ Some m → v ≡ view_of m → kept ≡ filter (λ o. stays_past v o) ms → All (λ o. may_wait h o ≡ true) kept
 kept_past m h v ms kept e f is = rw (e, is, f) (filter_passes (λ o. stays_past (view_of m) o) ms)

@@ -24,9 +24,9 @@ is_proper None = true
 is_proper (Some f) = is_finalization f
 
 -- whether what is held lets a message wait
-abbrev pub is_past : {P : Type 0} → Option (Message P) → Message P → Bool
-is_past None m = true
-is_past (Some f) m = stays_past (view_of f) m
+abbrev pub may_wait : {P : Type 0} → Option (Message P) → Message P → Bool
+may_wait None m = true
+may_wait (Some f) m = stays_past (view_of f) m
 
 -- a finalization takes its place, and what it settles waits no more
 abbrev pub finalized : {P : Type 0} → Message P → Queue P → Queue P
@@ -40,11 +40,11 @@ abbrev pub appended : {P : Type 0} → Message P → Queue P → Queue P
 appended m q = cond (is_full q) q (record { finalization = q.finalization; messages = q.messages ++ m ∷ [] })
 
 -- where the first message stands that says the same
-abbrev pub place_of : {P : Type 0} → Message P → List (Message P) → Option ℕ
-place_of m ms = position (λ o. repeats m o) ms
+abbrev pub found_at : {P : Type 0} → Message P → List (Message P) → Option ℕ
+found_at m ms = position (λ o. repeats m o) ms
 
 abbrev pub is_repeated : {P : Type 0} → Message P → List (Message P) → Bool
-is_repeated m ms = is_some (place_of m ms)
+is_repeated m ms = is_some (found_at m ms)
 
 abbrev pub widened_at : {P : Type 0} → Option ℕ → Message P → List (Message P) → List (Message P)
 widened_at None m ms = ms
@@ -52,7 +52,7 @@ widened_at (Some i) m ms = slice_set ms i (widened (slice_index_or ms i m))
 
 -- a request with no target leaves none to the one that it repeats
 abbrev pub merged : {P : Type 0} → Message P → List (Message P) → List (Message P)
-merged m ms = cond (asks_all m) (widened_at (place_of m ms) m ms) ms
+merged m ms = cond (asks_all m) (widened_at (found_at m ms) m ms) ms
 
 abbrev pub joined : {P : Type 0} → Message P → Queue P → Queue P
 joined m q = cond (is_repeated m q.messages) (record { finalization = q.finalization; messages = merged m q.messages }) (appended m q)

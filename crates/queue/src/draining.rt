@@ -69,7 +69,7 @@ impl<'a, P: Copy> Pending<'a, P> {
         ensures list { list.new ≡ (drained (length list.old) (queue_of self.old)).0 ++ drop result list.old }
         ensures queue { queue_of self.new ≡ (drained (length list.old) (queue_of self.old)).1 }
     {
-        if list.len() == 0 {
+        if list.is_empty() {
             return 0;
         }
         let Some(finalization) = self.finalization.take() else {

@@ -20,7 +20,7 @@ impl<'a, P> Lent<'a, P> {
     ) -> Result<Lent<'a, P>, Fault>
         ensures { MatchResult result (λ l. (1 ≤ length finalization.old) × (64 ≤ length messages.old) × (l.finalization.now ≡ finalization.old) × (l.messages.now ≡ messages.old)) (λ f. ((length finalization.old < 1) ⊎ (length messages.old < 64)) × (f ≡ TooFewPlaces)) }
     {
-        if finalization.len() < 1 || messages.len() < PLACES {
+        if finalization.is_empty() || messages.len() < PLACES {
             return Err(Fault::TooFewPlaces);
         }
         Ok(Lent {

@@ -5,7 +5,7 @@ use record::Kind;
 use views::View;
 
 /// A message to a resolver. `P` is what a host needs to act on a certificate: the record, or where it keeps it.
-#[derive(Clone, Copy)]
+#[derive(Clone, Copy, Debug, PartialEq, Eq)]
 pub enum Message<P> {
     /// A certificate was received or made.
     Updated {

@@ -1,7 +1,7 @@
 ghost use Rattle.std.specs.Prelude.{◌≡◌, ◌<◌, ◌≤◌, [], length, take, filter, None, true, Err, Ok, cond};
 ghost use Rattle.slot.specs.Slots.{held};
 ghost use Rattle.queue.specs.Messages.{is_finalization, stays_past};
-ghost use Rattle.queue.specs.Queues.{is_outdated, finalized, is_full, appended, is_past, place_of, is_repeated, merged, offered, offer_answer};
+ghost use Rattle.queue.specs.Queues.{is_outdated, finalized, is_full, appended, may_wait, found_at, is_repeated, merged, offered, offer_answer};
 ghost use Rattle.queue.specs.Pendings.{waiting_of, queue_of};
 
 use crate::{Fault, Lent, Message, PLACES, Pending};
@@ -72,7 +72,7 @@ impl<'a, P: Copy> Pending<'a, P> {
 
     /// Where a message waits that says the same.
     fn find(&self, message: &Message<P>) -> Option<usize>
-        ensures { result ≡ place_of message.now (waiting_of self.now) }
+        ensures { result ≡ found_at message.now (waiting_of self.now) }
     {
         self.as_slice()
             .iter()
@@ -96,7 +96,7 @@ impl<'a, P: Copy> Pending<'a, P> {
 
     /// Puts a message behind the others.
     fn append(&mut self, message: Message<P>) -> Result<(), Fault>
-        requires { is_past (held self.old.finalization) message ≡ true }
+        requires { may_wait (held self.old.finalization) message ≡ true }
         ensures answer { result ≡ (cond (is_full (queue_of self.old)) (Err Fault.Full) (Ok tt)) }
         ensures queue { queue_of self.new ≡ appended message (queue_of self.old) }
     {
@@ -110,10 +110,11 @@ impl<'a, P: Copy> Pending<'a, P> {
     }
 
     /// Offers a message.
-    #[tactic(auto, using(crate::proofs::Offers::offered_steps, crate::proofs::Offers::marker_past, crate::proofs::Offers::newer_past))]
+    #[tactic(auto, using(crate::proofs::Offers::offered_steps, crate::proofs::Offers::marker_may_wait, crate::proofs::Offers::newer_may_wait))]
     pub fn handle(&mut self, message: Message<P>) -> Result<(), Fault>
         ensures answer { result ≡ offer_answer message (queue_of self.old) }
         ensures queue { queue_of self.new ≡ offered message (queue_of self.old) }
+        ensures refused { result ≡ Err Fault.Full → queue_of self.new ≡ queue_of self.old }
     {
         if message.is_marker() {
             return self.append(message);

@@ -1,7 +1,7 @@
 ghost use Rattle.std.specs.Prelude.{◌≡◌, ◌≤◌, true, length, take};
 ghost use Rattle.std.specs.List.{All};
 ghost use Rattle.slot.specs.Slots.{held, places};
-ghost use Rattle.queue.specs.Queues.{is_proper, is_past};
+ghost use Rattle.queue.specs.Queues.{is_proper, may_wait};
 
 use crate::Message;
 use slot::Slot;
@@ -19,5 +19,5 @@ pub struct Pending<'a, P> {
     ghost enough: { 64 ≤ length messages.now },
     ghost few: { len ≤ 64 },
     ghost proper: { is_proper (held finalization) ≡ true },
-    ghost past: { All (λ m. is_past (held finalization) m ≡ true) (take len messages.now) },
+    ghost past: { All (λ m. may_wait (held finalization) m ≡ true) (take len messages.now) },
 }

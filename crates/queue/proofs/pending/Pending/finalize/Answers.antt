@@ -1,4 +1,4 @@
-use Rattle.std.proofs.Common.{◌≡◌, Some, arith, sym, ap, ◌∙◌}
+use Rattle.std.proofs.Common.{◌≡◌, Some, arith, take, ap, ◌∙◌}
 use Rattle.std.proofs.lemmas.Bool.{cond-true, lt-ltb}
 use Rattle.slot.specs.Slots.{held, places}
 use Rattle.queue.specs.Queues.{is_proper}
@@ -14,5 +14,5 @@ invariant_of-self-2 g c =
       enough = omega (arith, c.retain-self.auto.messages, s.enough);
       few = omega (arith, c.retain-self.ensures.fewer, s.few);
       proper = ap is_proper holds ∙ c.requires;
-      past = kept_past c.args.message (held c.put.new.self) c.view.result _ _ holds c.view.ensures c.retain-self.ensures.kept;
+      past = kept_past c.args.message (held c.put.new.self) c.view.result (take s.len s.messages.now) (take c.retain-self.result c.retain-self.new.messages) holds c.view.ensures c.retain-self.ensures.kept;
     }
