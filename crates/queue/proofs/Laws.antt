@@ -86,6 +86,7 @@ kept_from n (Some f) ms k = elim (cases_Bool (eqb n 0)) [
 ]
 
 pub kept_drained : {P : Type 0} (n : ℕ) (q : Queue P) → Kept q → Kept (drained n q).1
+unfolding drained
 kept_drained n q k = kept_from n q.finalization q.messages k
 
 -- a refused offer changes nothing

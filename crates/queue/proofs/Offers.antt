@@ -13,6 +13,7 @@ use Rattle.queue.specs.Messages.{view_of, is_marker, is_finalization, stays_past
 use Rattle.queue.specs.Queues.{Queue, is_outdated, may_wait, finalized, appended, found_at, is_repeated, merged, joined, offered}
 
 pub offered_steps : {P : Type 0} (m : Message P) (q : Queue P) → offered m q ≡ cond (is_marker m) (appended m q) (cond (is_outdated (view_of m) q.finalization) q (cond (is_finalization m) (finalized m q) (joined m q)))
+unfolding offered
 offered_steps (Updated Notarization v p) q = refl
 offered_steps (Updated Nullification v p) q = refl
 offered_steps (Updated Finalization v p) q = refl

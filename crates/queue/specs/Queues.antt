@@ -58,7 +58,7 @@ abbrev pub joined : {P : Type 0} → Message P → Queue P → Queue P
 joined m q = cond (is_repeated m q.messages) (record { finalization = q.finalization; messages = merged m q.messages }) (appended m q)
 
 -- what is at or below the held finalization is dropped
-abbrev pub offered : {P : Type 0} → Message P → Queue P → Queue P
+unfoldable pub offered : {P : Type 0} → Message P → Queue P → Queue P
 offered Replayed q = appended Replayed q
 offered (Updated Finalization v p) q = cond (is_outdated v q.finalization) q (finalized (Updated Finalization v p) q)
 offered (Updated k v p) q = cond (is_outdated v q.finalization) q (joined (Updated k v p) q)
@@ -80,5 +80,5 @@ drained_from n None ms = (take n ms, record { finalization = None; messages = dr
 drained_from n (Some f) ms = cond (n == 0) ([], record { finalization = Some f; messages = ms }) (f ∷ take (n - 1) ms, record { finalization = None; messages = drop (n - 1) ms })
 
 -- what comes out where there is room for so many, the held finalization first, and what is left
-abbrev pub drained : {P : Type 0} → ℕ → Queue P → List (Message P) × Queue P
+unfoldable pub drained : {P : Type 0} → ℕ → Queue P → List (Message P) × Queue P
 drained n q = drained_from n q.finalization q.messages

@@ -64,6 +64,7 @@ impl<'a, P: Copy> Pending<'a, P> {
 
     /// Gives the held finalization and then the other messages to a list, as many as there is room for, and returns how
     /// many these are.
+    #[tactic(auto, unfolding(crate::specs::Queues::drained))]
     pub fn drain(&mut self, list: &mut [Message<P>]) -> usize
         ensures count { result ≡ length (drained (length list.old) (queue_of self.old)).0 }
         ensures list { list.new ≡ (drained (length list.old) (queue_of self.old)).0 ++ drop result list.old }

@@ -131,7 +131,7 @@ impl<P: Copy> Message<P> {
                 proposal,
                 view,
                 kind,
-                ..
+                target: _,
             } => Message::Resolve {
                 proposal,
                 view,
