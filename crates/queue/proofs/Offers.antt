@@ -1,6 +1,8 @@
 -- What an offer makes of a queue, test by test.
 use Rattle.std.proofs.Common.{◌≡◌, ℕ, ◌<◌, true, false, cond, is_some, Some, None, Option, List, length, take, set, filter, get_or, refl, sym, ap, ◌∙◌, inl, inr, arith}
 use Rattle.std.specs.List.{All}
+use Rattle.std.specs.Prelude.{MatchOption, slice_get}
+use Rattle.std.proofs.lemmas.Option.{slice_get_cases}
 use Rattle.std.proofs.lemmas.Bool.{cases_Bool, leb-false, lt-ltb}
 use Rattle.std.proofs.lemmas.List.{get_or-take, get_or_default, length-take}
 use Rattle.std.proofs.lemmas.List.Elements.{All-set, All-get_or, filter_passes}
@@ -69,6 +71,28 @@ wider_past h m n list i x w e is past =
     let within : i < n = omega (arith, found.0, length-take n list) in
     let own : may_wait h w ≡ true = ap (may_wait h) is ∙ widened_past h (get_or list i x) ∙ ap (may_wait h) (same_element n list i x m found.0) ∙ All-get_or (λ o. may_wait h o ≡ true) ms i m found.0 past in
     rw (take-set-lt n list i w within) (All-set (λ o. may_wait h o ≡ true) ms i w own past)
+
+-- where a write clears a target
+written : {P : Type 0} (list now : List (Message P)) (i : ℕ) → i < length list → MatchOption (slice_get list i) ⊥ (λ m. now ≡ set list i (widened m)) → (x : Message P) × (now ≡ set list i (widened (get_or list i x)))
+written list now i h is = elim (slice_get_cases list i).1 [
+  | inl s ↦
+      let own : now ≡ set list i (widened s.0) = rw s.2 at is in
+      (s.0, own ∙ ap (λ m. set list i (widened m)) (sym s.3))
+  | inr s ↦ absurd (omega (arith, s.0, h))
+]
+
+within_list : {P : Type 0} (m : Message P) (n : ℕ) (list : List (Message P)) (i : ℕ) → found_at m (take n list) ≡ Some i → i < length list
+within_list m n list i e = omega (arith, (position-Some (λ o. repeats m o) (take n list) i m e).0, length-take n list)
+
+pub wider_write : {P : Type 0} (m : Message P) (n : ℕ) (list now : List (Message P)) (i : ℕ) → found_at m (take n list) ≡ Some i → asks_all m ≡ true → MatchOption (slice_get list i) ⊥ (λ o. now ≡ set list i (widened o)) → take n now ≡ merged m (take n list)
+wider_write m n list now i e t is =
+    let w = written list now i (within_list m n list i e) is in
+    ap (take n) w.1 ∙ (wider_place m n list i w.0 (widened (get_or list i w.0)) e t refl).1
+
+pub past_write : {P : Type 0} (h : Option (Message P)) (m : Message P) (n : ℕ) (list now : List (Message P)) (i : ℕ) → found_at m (take n list) ≡ Some i → MatchOption (slice_get list i) ⊥ (λ o. now ≡ set list i (widened o)) → All (λ o. may_wait h o ≡ true) (take n list) → All (λ o. may_wait h o ≡ true) (take n now)
+past_write h m n list now i e is past =
+    let w = written list now i (within_list m n list i e) is in
+    rw w.1 (wider_past h m n list i w.0 (widened (get_or list i w.0)) e refl past)
 
 -- what stays beside a new finalization
 pub kept_past : {P : Type 0} (m : Message P) (h : Option (Message P)) (v : ℕ) (ms kept : List (Message P)) → h ≡ Some m → v ≡ view_of m → kept ≡ filter (λ o. stays_past v o) ms → All (λ o. may_wait h o ≡ true) kept

@@ -5,8 +5,8 @@ ghost use Rattle.queue.specs.Pendings.{waiting_of, queue_of};
 
 use crate::{Message, Pending};
 
-/// Copies messages into a list from its place `from` on, and moves those behind them to the front.
-fn copy<P: Copy>(
+/// Exchanges messages for those of a list from its place `from` on, and moves those behind them to the front.
+fn give<P>(
     list: &mut [Message<P>],
     from: usize,
     messages: &mut [Message<P>],
@@ -19,12 +19,13 @@ fn copy<P: Copy>(
     ensures list { list.new ≡ take from list.old ++ take count messages.old ++ drop (from + count) list.old }
     ensures left { take (len - count) messages.new ≡ drop count (take len messages.old) }
 {
-    let end = from + count;
-    list[from..end].copy_from_slice(&messages[..count]);
-    messages.copy_within(count..len, 0);
+    for i in 0..count {
+        std::mem::swap(&mut list[from + i], &mut messages[i]);
+    }
+    messages[..len].rotate_left(count);
 }
 
-impl<'a, P: Copy> Pending<'a, P> {
+impl<'a, P: Drop> Pending<'a, P> {
     /// How many messages wait, beside a finalization.
     pub fn waiting(&self) -> usize
         ensures { result ≡ length (waiting_of self.now) }
@@ -36,7 +37,7 @@ impl<'a, P: Copy> Pending<'a, P> {
     pub fn holds_finalization(&self) -> bool
         ensures { result ≡ is_some (held self.now.finalization) }
     {
-        self.finalization.get().is_some()
+        self.finalization.peek().is_some()
     }
 
     /// Whether nothing waits.
@@ -57,7 +58,7 @@ impl<'a, P: Copy> Pending<'a, P> {
         let count = len.min(list.len() - from);
         // Until they are moved, none counts.
         self.len = 0;
-        copy(list, from, self.messages, count, len);
+        give(list, from, self.messages, count, len);
         self.len = len - count;
         count
     }
@@ -73,10 +74,10 @@ impl<'a, P: Copy> Pending<'a, P> {
         if list.is_empty() {
             return 0;
         }
-        let Some(finalization) = self.finalization.take() else {
+        if !self.holds_finalization() {
             return self.drain_messages(list, 0);
-        };
-        list[0] = finalization;
+        }
+        self.finalization.give(&mut list[0]);
         1 + self.drain_messages(list, 1)
     }
 }

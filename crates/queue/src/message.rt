@@ -31,7 +31,7 @@ pub enum Message<P> {
     Replayed,
 }
 
-impl<P: Copy> Message<P> {
+impl<P> Message<P> {
     /// Its view. The marker has none, and tells 0.
     pub fn view(&self) -> View
         ensures { result ≡ view_of self.now }
@@ -78,7 +78,7 @@ impl<P: Copy> Message<P> {
     pub fn repeats(&self, other: &Message<P>) -> bool
         ensures { result ≡ repeats self.now other.now }
     {
-        match (*self, *other) {
+        match (self, other) {
             (
                 Message::Updated { kind, view, .. },
                 Message::Updated {
@@ -122,23 +122,13 @@ impl<P: Copy> Message<P> {
         }
     }
 
-    /// The same with no target.
-    pub fn widened(self) -> Message<P>
-        ensures { result ≡ widened self }
+    /// Clears the target.
+    pub fn widen(&mut self)
+        ensures { self.new ≡ widened self.old }
     {
         match self {
-            Message::Resolve {
-                proposal,
-                view,
-                kind,
-                target: _,
-            } => Message::Resolve {
-                proposal,
-                view,
-                kind,
-                target: None,
-            },
-            other => other,
+            Message::Resolve { target, .. } => *target = None,
+            _ => {}
         }
     }
 }

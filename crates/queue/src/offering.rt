@@ -1,6 +1,6 @@
-ghost use Rattle.std.specs.Prelude.{◌≡◌, ◌<◌, ◌≤◌, [], length, take, filter, None, true, Err, Ok, cond};
+ghost use Rattle.std.specs.Prelude.{◌≡◌, ◌<◌, ◌≤◌, [], length, take, filter, None, true, Err, Ok, cond, slice_get, slice_set, MatchOption};
 ghost use Rattle.slot.specs.Slots.{held};
-ghost use Rattle.queue.specs.Messages.{is_finalization, stays_past};
+ghost use Rattle.queue.specs.Messages.{is_finalization, stays_past, widened};
 ghost use Rattle.queue.specs.Queues.{is_outdated, finalized, is_full, appended, may_wait, found_at, is_repeated, merged, offered, offer_answer};
 ghost use Rattle.queue.specs.Pendings.{waiting_of, queue_of};
 
@@ -9,23 +9,30 @@ use slot::Slot;
 use views::View;
 
 /// Moves the messages that stay past a view to the front of the first `len`, and returns how many these are.
-fn retain<P: Copy>(messages: &mut [Message<P>], len: usize, view: View) -> usize
+fn retain<P>(messages: &mut [Message<P>], len: usize, view: View) -> usize
     requires { len ≤ length messages.old }
     ensures kept { take result messages.new ≡ filter (λ m. stays_past view m) (take len messages.old) }
     ensures fewer { result ≤ len }
 {
     let mut kept = 0;
     for i in 0..len {
-        let message = messages[i];
-        if message.stays_past(view) {
-            messages[kept] = message;
+        if messages[i].stays_past(view) {
+            messages.swap(kept, i);
             kept += 1;
         }
     }
     kept
 }
 
-impl<'a, P: Copy> Pending<'a, P> {
+/// Clears a message's target.
+fn widen<P>(messages: &mut [Message<P>], at: usize)
+    requires { at < length messages.old }
+    ensures { MatchOption (slice_get messages.old at) ⊥ (λ m. messages.new ≡ slice_set messages.old at (widened m)) }
+{
+    messages[at].widen();
+}
+
+impl<'a, P: Drop> Pending<'a, P> {
     /// The empty queue.
     pub fn new(lent: Lent<'a, P>) -> Pending<'a, P>
         ensures { queue_of result ≡ record { finalization = None; messages = [] } }
@@ -52,7 +59,7 @@ impl<'a, P: Copy> Pending<'a, P> {
     fn is_outdated(&self, view: View) -> bool
         ensures { result ≡ is_outdated view (held self.now.finalization) }
     {
-        match self.finalization.get() {
+        match self.finalization.peek() {
             Some(finalization) => finalization.view() >= view,
             None => false,
         }
@@ -80,16 +87,15 @@ impl<'a, P: Copy> Pending<'a, P> {
     }
 
     /// Whether a message that waits says the same; a request with no target clears that one's target.
-    fn merge(&mut self, message: Message<P>) -> bool
-        ensures found { result ≡ is_repeated message (waiting_of self.old) }
-        ensures queue { queue_of self.new ≡ record { finalization = held self.old.finalization; messages = merged message (waiting_of self.old) } }
+    fn merge(&mut self, message: &Message<P>) -> bool
+        ensures found { result ≡ is_repeated message.now (waiting_of self.old) }
+        ensures queue { queue_of self.new ≡ record { finalization = held self.old.finalization; messages = merged message.now (waiting_of self.old) } }
     {
-        let Some(at) = self.find(&message) else {
+        let Some(at) = self.find(message) else {
             return false;
         };
         if message.asks_all() {
-            let waiting = self.messages[at];
-            self.messages[at] = waiting.widened();
+            widen(self.messages, at);
         }
         true
     }
@@ -126,7 +132,7 @@ impl<'a, P: Copy> Pending<'a, P> {
             self.finalize(message);
             return Ok(());
         }
-        if self.merge(message) {
+        if self.merge(&message) {
             return Ok(());
         }
         self.append(message)

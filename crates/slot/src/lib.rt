@@ -1,7 +1,8 @@
 //! One place for one value, in memory that a host lends.
 #![tactic(auto)]
 
-ghost use Rattle.std.specs.Prelude.{◌≡◌, length, drop, if◌then◌else◌, Some, None, nat_lt};
+ghost use Rattle.std.specs.Option.{option_copied};
+ghost use Rattle.std.specs.Prelude.{◌≡◌, length, drop, if◌then◌else◌, is_some, Some, None, nat_lt};
 ghost use Rattle.slot.specs.Slots.{held, places};
 
 /// A place that holds one value or none. A value in a place that holds none is free.
@@ -11,7 +12,7 @@ pub struct Slot<'a, T> {
     full: bool,
 }
 
-impl<'a, T: Copy> Slot<'a, T> {
+impl<'a, T> Slot<'a, T> {
     /// The empty place.
     pub fn new(place: &'a mut [T]) -> Slot<'a, T>
         ensures empty { held result ≡ None }
@@ -21,6 +22,33 @@ impl<'a, T: Copy> Slot<'a, T> {
         Slot { place, full: false }
     }
 
+    /// What it holds, where it stands.
+    pub fn peek(&self) -> Option<&T>
+        ensures { option_copied result ≡ held self.now }
+    {
+        if !self.full {
+            return None;
+        }
+        self.place.first()
+    }
+
+    /// Exchanges what it holds for a value that is free then; `false`, with no change, where it holds nothing.
+    pub fn give(&mut self, to: &mut T) -> bool
+        ensures given { result ≡ is_some (held self.old) }
+        ensures to { Some to.new ≡ (if result then held self.old else Some to.old) }
+        ensures empty { held self.new ≡ None }
+        ensures places { places self.new ≡ places self.old }
+    {
+        if !self.full || self.place.len() == 0 {
+            return false;
+        }
+        self.full = false;
+        std::mem::swap(&mut self.place[0], to);
+        true
+    }
+}
+
+impl<'a, T: Copy> Slot<'a, T> {
     /// What it holds.
     pub fn get(&self) -> Option<T>
         ensures { result ≡ held self.now }
@@ -31,6 +59,19 @@ impl<'a, T: Copy> Slot<'a, T> {
         self.place.first().copied()
     }
 
+    /// Takes out what it holds.
+    pub fn take(&mut self) -> Option<T>
+        ensures taken { result ≡ held self.old }
+        ensures empty { held self.new ≡ None }
+        ensures place { self.new.place.now ≡ self.old.place.now }
+    {
+        let taken = self.get();
+        self.full = false;
+        taken
+    }
+}
+
+impl<'a, T: Drop> Slot<'a, T> {
     /// Puts a value in the place of what it holds; `false`, with no change, where the host lent no place.
     pub fn put(&mut self, value: T) -> bool
         ensures room { result ≡ nat_lt 0 (places self.old) }
@@ -44,16 +85,5 @@ impl<'a, T: Copy> Slot<'a, T> {
         self.place[0] = value;
         self.full = true;
         true
-    }
-
-    /// Takes out what it holds.
-    pub fn take(&mut self) -> Option<T>
-        ensures taken { result ≡ held self.old }
-        ensures empty { held self.new ≡ None }
-        ensures place { self.new.place.now ≡ self.old.place.now }
-    {
-        let taken = self.get();
-        self.full = false;
-        taken
     }
 }
