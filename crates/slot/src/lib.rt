@@ -2,7 +2,7 @@
 #![tactic(auto)]
 
 ghost use Rattle.std.specs.Option.{option_copied};
-ghost use Rattle.std.specs.Prelude.{◌≡◌, length, drop, if◌then◌else◌, is_some, Some, None, nat_lt};
+ghost use Rattle.std.specs.Prelude.{◌≡◌, length, drop, if◌then◌else◌, is_some, Some, None, nat_lt, slice_set};
 ghost use Rattle.slot.specs.Slots.{held, places};
 
 /// A place that holds one value or none. A value in a place that holds none is free.
@@ -37,6 +37,7 @@ impl<'a, T> Slot<'a, T> {
         ensures given { result ≡ is_some (held self.old) }
         ensures to { Some to.new ≡ (if result then held self.old else Some to.old) }
         ensures empty { held self.new ≡ None }
+        ensures place { self.new.place.now ≡ (if result then slice_set self.old.place.now 0 to.old else self.old.place.now) }
         ensures places { places self.new ≡ places self.old }
     {
         if !self.full || self.place.len() == 0 {
@@ -53,10 +54,7 @@ impl<'a, T: Copy> Slot<'a, T> {
     pub fn get(&self) -> Option<T>
         ensures { result ≡ held self.now }
     {
-        if !self.full {
-            return None;
-        }
-        self.place.first().copied()
+        self.peek().copied()
     }
 
     /// Takes out what it holds.
