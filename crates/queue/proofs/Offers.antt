@@ -34,14 +34,6 @@ newer_may_wait (Some f) m e =
     let newer = lt-ltb (view_of f) (view_of m) (leb-false (view_of m) (view_of f) e) in
     elim (cases_Bool (is_marker m)) [ inl t ↦ rw t refl | inr n ↦ rw n newer ]
 
--- a message that is not repeated
-pub new_place : {P : Type 0} (m : Message P) (ms : List (Message P)) → found_at m ms ≡ None → (is_repeated m ms ≡ false) × (merged m ms ≡ ms)
-new_place m ms e = (ap is_some e, rw e (elim (cases_Bool (asks_all m)) [ inl t ↦ rw t refl | inr f ↦ rw f refl ]))
-
--- one that changes nothing
-pub same_place : {P : Type 0} (m : Message P) (ms : List (Message P)) (i : ℕ) → found_at m ms ≡ Some i → asks_all m ≡ false → (is_repeated m ms ≡ true) × (merged m ms ≡ ms)
-same_place m ms i e f = (ap is_some e, rw f refl)
-
 same_element : {X : Type 0} (n : ℕ) (list : List X) (i : ℕ) (x y : X) → i < length (take n list) → get_or list i x ≡ get_or (take n list) i y
 same_element n list i x y h =
     let within : i < n = omega (arith, h, length-take n list) in
