@@ -136,7 +136,7 @@ head_fresh o os d =
 fresh_head : (o : Open) (os : List Open) → lookup (place_of o) os ≡ None → distinct os ≡ true → distinct (o ∷ os) ≡ true
 fresh_head o os n d = rw n d
 
-rises_distinct : (os : List Open) → Rises os → distinct os ≡ true
+pub rises_distinct : (os : List Open) → Rises os → distinct os ≡ true
 rises_distinct [] r = refl
 rises_distinct (o ∷ os) r = fresh_head o os (none_below (place_of o) os r.0) (rises_distinct os r.1)
 

@@ -1,0 +1,11 @@
+pub mod Ruled
+pub mod Counted
+pub mod Asks
+pub mod Boards
+pub mod Counts
+pub mod Covered
+pub mod Recorded
+pub mod Told
+pub mod Tells
+pub mod Staying
+pub mod Uses

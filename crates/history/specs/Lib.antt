@@ -1,0 +1,5 @@
+pub mod Calls
+pub mod Events
+pub mod Promises
+pub mod Rules
+pub mod Uses
