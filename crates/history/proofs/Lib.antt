@@ -1,3 +1,4 @@
+pub mod Points
 pub mod Ruled
 pub mod Counted
 pub mod Asks

@@ -149,10 +149,10 @@ nothing_open = record { up = tt; background = λ v. refl; ancestry = λ k v. ref
 
 module _ {R : Type 0} {g : viewable.Ghosts R} (sort : R → Kind) (era : R → ℕ) (u : Use R) where
   -- what is carried from point to point
-  record At (h : List (Event R)) (s : State R g) (os : List Open) : Type 0 where
+  pub record At (h : List (Event R)) (s : State R g) (os : List Open) : Type 0 where
     recorded : Recorded sort u.length (calls h) (held s)
     open' : OpenBy u.length (calls h) (held s) os
-    suits : Suits u s
+    pub suits : Suits u s
     answers : AllAnswer g.viewed sort era u h
 
   module _ (s : State R g) (fits : Suits u s) where
@@ -276,7 +276,7 @@ module _ {R : Type 0} {g : viewable.Ghosts R} (sort : R → Kind) (era : R → �
     step_at (produced v a) d = still (produced v a) h s s' os os' refl now' (d.0 ∙ served_alike sort u.length more (calls h) (held s) now'.recorded v up.nullifications) d.1
 
   -- every point is one
-  at_each : (h : List (Event R)) (s : State R g) (os : List Open) → Reached sort era u h s os → At h s os
+  pub at_each : (h : List (Event R)) (s : State R g) (os : List Open) → Reached sort era u h s os → At h s os
   unfolding calls AllAnswer
   at_each _ s _ (made new fits) = record {
     recorded = rw new (recorded_made sort u.length);

@@ -63,6 +63,9 @@ pub record Use (R : Type 0) : Type 0 where
   pub fit : Bool
   pub approved : R → Bool
 
+abbrev pub use_with : {R : Type 0} → ℕ → ℕ → Bool → (R → Bool) → Use R
+use_with l e b f = record { length = l; epoch = e; fit = b; approved = f }
+
 module _ {R : Type 0} (viewed : R → ℕ) (sort : R → Kind) (era : R → ℕ) (u : Use R) where
   -- a call answers what the rules say, by the calls accepted before it
   abbrev pub Answers : Event R → List (Call R) → Type 0

@@ -19,7 +19,7 @@ use Rattle.store.specs.Steps as step
 use Rattle.store.specs.Values.{Values}
 use Rattle.effects.specs.declared.effect.Effect.{Effect}
 use Rattle.views.specs.declared.Viewable as viewable
-use Rattle.history.specs.Events.{Event, updated, certified, replayed, resolved, delivered, settled, produced, Use}
+use Rattle.history.specs.Events.{Event, updated, certified, replayed, resolved, delivered, settled, produced, Use, use_with}
 
 -- a delivered record is one that answers for a view
 abbrev pub passes : {R : Type 0} → (R → ℕ) → (R → Kind) → (R → ℕ) → Use R → ℕ → R → Bool
@@ -37,6 +37,10 @@ module _ {R : Type 0} {g : viewable.Ghosts R} where
     pub asks : os' ≡ applied es os
     pub fixed : Fixed s s'
     pub promises : Promises (term s) (held s) (held s') es
+
+  -- the use that a state goes by
+  abbrev pub use_of : State R g → (R → Bool) → Use R
+  use_of s approved = use_with (term s) (epoch_of s) (fits s) approved
 
   -- the state goes by the use's term length and epoch
   pub record Suits (u : Use R) (s : State R g) : Type 0 where

@@ -1,11 +1,8 @@
-//! One use of one resolver.
+//! One use of one resolver: what its accepted calls settle, ask for and serve, at every point of any history of them.
 #![tactic(auto)]
 
-ghost use Rattle.std.specs.Prelude.{◌≡◌};
+mod calls;
+mod serving;
+pub mod used;
 
-/// Nothing yet.
-pub fn nothing() -> u8
-    ensures { result ≡ 0 }
-{
-    0
-}
+pub use used::Resolver;
