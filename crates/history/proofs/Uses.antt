@@ -36,7 +36,7 @@ use Rattle.store.specs.Fresh.{fresh}
 use Rattle.store.specs.Steps as step
 use Rattle.store.specs.Values.{Values, finalized as finalized_in, is_covered, gaps_of}
 use Rattle.views.specs.declared.Viewable as viewable
-use Rattle.history.specs.Calls.{Call, evidence, verdict, marker, request, some, highest, is_marker, is_request, requested, narrowed, target, marked, covered, settles, needed, serves}
+use Rattle.history.specs.Calls.{Call, evidence, verdict, marker, request, some, highest, is_marker, is_request, is_open_request, requested, first_seat, target, marked, covered, settles, needed, serves}
 use Rattle.history.specs.Calls as words
 use Rattle.history.specs.Events.{Event, updated, certified, replayed, resolved, delivered, settled, produced, calls, accepted, Use, Answers, AllAnswer}
 use Rattle.history.specs.Promises.{Promises, Law, Point, if_needed, if_asked}
@@ -62,6 +62,21 @@ one_place ask.Nullification ask.Notarization w v e = absurd (omega (arith, e))
 one_place ask.Notarization ask.Nullification w v e = absurd (omega (arith, e))
 one_place ask.Notarization ask.Notarization w v e = eq-eqb w v (omega (arith, e))
 
+no_request : {R : Type 0} (k : Ask) (v : ℕ) (c : Call R) → is_request k v c ≡ false → is_open_request k v c ≡ false
+no_request k v (evidence x) f = refl
+no_request k v (verdict b x) f = refl
+no_request k v marker f = refl
+no_request k v (request w j t) f = grind (arith, common_steps)
+
+-- a request that names no seat is a request
+open_is_request : {R : Type 0} (k : Ask) (v : ℕ) (h : List (Call R)) → some (is_open_request k v) h ≡ true → requested k v h ≡ true
+unfolding some
+open_is_request k v [] t = absurd (true≢false (sym t))
+open_is_request k v (evidence x ∷ h) t = open_is_request k v h t
+open_is_request k v (verdict b x ∷ h) t = open_is_request k v h t
+open_is_request k v (marker ∷ h) t = open_is_request k v h t
+open_is_request k v (request w j a ∷ h) t = let i = open_is_request k v h in grind (arith, common_steps)
+
 -- what the board has open, by the accepted calls
 abbrev OpenBy : {R : Type 0} {g : viewable.Ghosts R} → ℕ → List (Call R) → Values R g → List Open → Type 0
 OpenBy L h s os = Asked L (λ k v. requested k v h) (λ k v. target k v h) s os
@@ -69,11 +84,11 @@ OpenBy L h s os = Asked L (λ k v. requested k v h) (λ k v. target k v h) s os
 module _ {R : Type 0} {g : viewable.Ghosts R} (sort : R → Kind) (L : ℕ) (positive : 0 < L) where
   -- a call that is no request asks for nothing
   same_wishes : (c : Call R) → ((k : Ask) (v : ℕ) → is_request k v c ≡ false) → (h : List (Call R)) (s : Values R g) (os : List Open) → OpenBy L h s os → OpenBy L (c ∷ h) s os
-  unfolding some target
+  unfolding some first_seat
   same_wishes c none h s os o = record {
     up = o.up;
     background = o.background;
-    ancestry = λ k v. o.ancestry k v ∙ (let n = none k v in grind (arith, common_steps));
+    ancestry = λ k v. o.ancestry k v ∙ (let n = none k v in let m = no_request k v c in grind (arith, common_steps));
   }
 
   module _ (w : ℕ) (j : Ask) (t : Option ℕ) (h : List (Call R)) (s : Values R g) (os : List Open) (unsettled : holds_settled L j w s ≡ false) (o : OpenBy L h s os) where
@@ -83,10 +98,10 @@ module _ {R : Type 0} {g : viewable.Ghosts R} (sort : R → Kind) (L : ℕ) (pos
 
     -- it is enough to know of the ask itself, and that every other is found as before
     found_each : (os' : List Open) → Found os' j w → ((k : Ask) (v : ℕ) → is_request {R = R} k v (request w j t) ≡ false → lookup (place v (Ancestry k)) os' ≡ lookup (place v (Ancestry k)) os) → (k : Ask) (v : ℕ) → Found os' k v
-    unfolding some target
+    unfolding some first_seat
     found_each os' here others k v = elim (cases_Bool (is_request {R = R} k v (request w j t))) [
       | inl this ↦ let p = and_parts (same_kind j k) (eqb w v) this in subst (λ i. Found os' i v) (same_ask j k p.0) (subst (λ u. Found os' j u) (eqb-true w v p.1) here)
-      | inr other ↦ others k v other ∙ o.ancestry k v ∙ (let a = other in grind (arith, common_steps))
+      | inr other ↦ others k v other ∙ o.ancestry k v ∙ (let a = other in let m = no_request {R = R} k v (request w j t) in grind (arith, common_steps))
     ]
 
     this_request : is_request {R = R} j w (request w j t) ≡ true
@@ -98,19 +113,19 @@ module _ {R : Type 0} {g : viewable.Ghosts R} (sort : R → Kind) (L : ℕ) (pos
 
     -- what a request leaves open
     request_opens : OpenBy L (request w j t ∷ h) s (opens w j t os)
-    unfolding some target
+    unfolding some first_seat
     request_opens = elim (cases_Bool (is_open w (Ancestry j) os && not (is_none t))) [
       | inl stays ↦ rw stays (record {
         up = o.up;
         background = o.background;
-        ancestry = found_each os (o.ancestry j w ∙ (let a = o.ancestry j w in let b = this_request in grind (arith, common_steps))) (λ k v other. refl);
+        ancestry = found_each os (o.ancestry j w ∙ (let a = o.ancestry j w in let b = this_request in let n = open_is_request j w h in grind (arith, common_steps))) (λ k v other. refl);
       })
       | inr goes ↦
           let a' = opened w (Ancestry j) t in
           rw goes (record {
             up = rises_placed a' os o.up;
             background = λ v. lookup_placed (place v Background) a' os ∙ rw (ne_eqb (place_of a') (place v Background) (λ e. omega (arith, e, ancestry_rank j))) (o.background v);
-            ancestry = found_each (placed a' os) (lookup_placed (place w (Ancestry j)) a' os ∙ rw (eq-eqb (place_of a') (place w (Ancestry j)) refl) (let a = o.ancestry j w in let b = this_request in grind (arith, common_steps))) (λ k v other. lookup_placed (place v (Ancestry k)) a' os ∙ rw (ne_eqb (place_of a') (place v (Ancestry k)) (λ e. absurd (both_ways _ other (one_place j k w v e)))) refl);
+            ancestry = found_each (placed a' os) (lookup_placed (place w (Ancestry j)) a' os ∙ rw (eq-eqb (place_of a') (place w (Ancestry j)) refl) (let a = o.ancestry j w in let b = this_request in let n = open_is_request j w h in grind (arith, common_steps))) (λ k v other. lookup_placed (place v (Ancestry k)) a' os ∙ rw (ne_eqb (place_of a') (place v (Ancestry k)) (λ e. absurd (both_ways _ other (one_place j k w v e)))) refl);
           })
     ]
 
@@ -144,7 +159,7 @@ calls_append (e ∷ later) earlier = ap (λ cs. accepted e ++ cs) (calls_append 
 
 -- at the making nothing is asked for and nothing is wanted
 nothing_open : {R : Type 0} {g : viewable.Ghosts R} {L : ℕ} → OpenBy L [] (fresh {R = R} {g = g}) []
-unfolding fresh some target lookup
+unfolding fresh some first_seat lookup
 nothing_open = record { up = tt; background = λ v. refl; ancestry = λ k v. refl }
 
 module _ {R : Type 0} {g : viewable.Ghosts R} (sort : R → Kind) (era : R → ℕ) (u : Use R) where

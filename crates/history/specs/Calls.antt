@@ -67,16 +67,27 @@ marked h = some is_marker h
 abbrev pub requested : {R : Type 0} → Ask → ℕ → List (Call R) → Bool
 requested k v h = some (is_request k v) h
 
--- whom an ask may go to: anyone if some request for it named no seat, else the seat that the first one named
-abbrev pub narrowed : {R : Type 0} → Bool → Option ℕ → Call R → Option ℕ
-narrowed asked before (evidence x) = before
-narrowed asked before (verdict b x) = before
-narrowed asked before marker = before
-narrowed asked before (request v k t) = cond asked (cond (is_none t) None before) t
+-- a request that names no seat
+abbrev pub is_open_request : {R : Type 0} → Ask → ℕ → Call R → Bool
+is_open_request k v (evidence x) = false
+is_open_request k v (verdict b x) = false
+is_open_request k v marker = false
+is_open_request k v (request w j t) = is_none t && (same_kind j k && w == v)
 
-unfoldable pub target : {R : Type 0} → Ask → ℕ → List (Call R) → Option ℕ
-target k v [] = None
-target k v (c ∷ h) = cond (is_request k v c) (narrowed (requested k v h) (target k v h) c) (target k v h)
+abbrev pub seat_in : {R : Type 0} → Call R → Option ℕ
+seat_in (evidence x) = None
+seat_in (verdict b x) = None
+seat_in marker = None
+seat_in (request v k t) = t
+
+-- the seat that the first request for an ask named
+unfoldable pub first_seat : {R : Type 0} → Ask → ℕ → List (Call R) → Option ℕ
+first_seat k v [] = None
+first_seat k v (c ∷ h) = cond (requested k v h) (first_seat k v h) (cond (is_request k v c) (seat_in c) None)
+
+-- whom an ask may go to: anyone if some request for it named no seat, else the seat that the first one named
+abbrev pub target : {R : Type 0} → Ask → ℕ → List (Call R) → Option ℕ
+target k v h = cond (some (is_open_request k v) h) None (first_seat k v h)
 
 module _ {R : Type 0} (viewed : R → ℕ) (sort : R → Kind) where
   abbrev pub finalizes : Call R → ℕ
