@@ -49,7 +49,7 @@ use Rattle.history.proofs.Staying.{settles_stays, serves_stays}
 use Rattle.history.proofs.Tells.{tells_evidence, tells_verdict, tells_marker}
 use Rattle.history.proofs.Told.{covered_alike, settled_alike, served_alike}
 
-same_ask : (j k : Ask) → same_kind j k ≡ true → j ≡ k
+pub same_ask : (j k : Ask) → same_kind j k ≡ true → j ≡ k
 same_ask ask.Nullification ask.Nullification t = refl
 same_ask ask.Nullification ask.Notarization t = absurd (true≢false (sym t))
 same_ask ask.Notarization ask.Nullification t = absurd (true≢false (sym t))

@@ -1,0 +1,3 @@
+pub mod Finalized
+pub mod Absorbed
+pub mod Same
