@@ -56,17 +56,6 @@ impl<'a, T: Copy> Slot<'a, T> {
     {
         self.peek().copied()
     }
-
-    /// Takes out what it holds.
-    pub fn take(&mut self) -> Option<T>
-        ensures taken { result ≡ held self.old }
-        ensures empty { held self.new ≡ None }
-        ensures place { self.new.place.now ≡ self.old.place.now }
-    {
-        let taken = self.get();
-        self.full = false;
-        taken
-    }
 }
 
 impl<'a, T: Drop> Slot<'a, T> {
