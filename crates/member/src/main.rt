@@ -31,6 +31,8 @@ enum Left {
     Member(Admitted),
     /// To have the member answer this.
     Order(Order),
+    /// To have the member take as many messages as this out of its queue.
+    Drain(u64),
 }
 
 impl<W: Write + Drop> Replies<W> {
@@ -65,6 +67,7 @@ impl<W: Write + Drop> Replies<W> {
                 }
             },
             Ok(Asked::Order(order)) => Ok(Left::Order(order)),
+            Ok(Asked::Drain(count)) => Ok(Left::Drain(count)),
             Err(problem) => {
                 self.mistake(line, problem)?;
                 Ok(Left::Nothing)
@@ -83,7 +86,7 @@ impl<W: Write + Drop> Replies<W> {
             match self.reply(heap, line, text, defaults)? {
                 Left::Nothing => {}
                 Left::Member(admitted) => return Ok(Some(admitted)),
-                Left::Order(_) => self.mistake(line, Problem::NoMember)?,
+                Left::Order(_) | Left::Drain(_) => self.mistake(line, Problem::NoMember)?,
             }
         }
         Ok(None)
@@ -108,6 +111,7 @@ impl<W: Write + Drop> Replies<W> {
                     let answered = member.carry_out(&order);
                     writeln!(self.out, "{}", member.shows(answered))?;
                 }
+                Left::Drain(count) => member.drain(&mut self.out, count)?,
             }
         }
         Ok(None)

@@ -1,4 +1,5 @@
 pub mod Carried
+pub mod Drained
 pub mod Enough
 pub mod Making
 pub mod Texts

@@ -5,11 +5,13 @@ use Rattle.board.specs.Shown.{open_text}
 use Rattle.board.specs.declared.open.Open.{Open}
 use Rattle.effects.specs.Lists.{entries}
 use Rattle.listings.specs.Texts.{hex_text, effects_text, views_text}
+use Rattle.message_text.specs.Texts.{waiting_text}
 use Rattle.one_member.specs.Carried.{view_in}
 use Rattle.one_member.specs.declared.carrying.Answered.{Answered}
-use Rattle.one_member.specs.declared.carrying.Answered.TheVariants.{Done, Refused, Asked, NotNeeded, Judged, Yes, No, Nothing, Served, Told}
+use Rattle.one_member.specs.declared.carrying.Answered.TheVariants.{Done, Refused, Asked, NotNeeded, Judged, Yes, No, Nothing, Served, Told, Waiting}
 use Rattle.one_member.specs.declared.carrying.Answered.TheVariants as answered
 use Rattle.one_member.specs.declared.member.Member.{Member}
+use Rattle.queue.specs.Pendings.{queue_of}
 use Rattle.record.specs.Certificates.{kind_in, written}
 use Rattle.record.specs.Kinds.{name_of}
 use Rattle.record.specs.declared.certificate.Certificate.{Certificate}
@@ -58,4 +60,5 @@ module _ {B : Type 0} (asks : B → List Open) where
   answer_text m Nothing = codes "none"
   answer_text m (Served c) = record_text c
   answer_text m answered.Open = asks_text (shown (asks m.board))
-  answer_text m Told = numbers_text (held m.resolver.state) ++ tables_text (held m.resolver.state)
+  answer_text m Told = numbers_text (held m.resolver.calls.state) ++ tables_text (held m.resolver.calls.state)
+  answer_text m Waiting = waiting_text (queue_of m.queue)

@@ -1,13 +1,17 @@
 ghost use Rattle.std.specs.Prelude.{◌≡◌};
-ghost use Rattle.orders.specs.Orders.{meant};
-ghost use Rattle.one_member.specs.Carried.{done_of, yes_no, asked_of, judged_of, found_of, Carried};
+ghost use Rattle.message_text.specs.Offers.{call_of};
+ghost use Rattle.orders.specs.Orders.{update, judge, end, wish, calling, meant};
+ghost use Rattle.one_member.specs.Carried.{done_of, yes_no, asked_of, judged_of, found_of, Called, Offered, Carried};
 ghost use Rattle.state.specs.Serving.{served};
 ghost use Rattle.state.specs.States.{held, term};
 
 use crate::Member;
 use board::Board;
-use orders::Order;
-use record::{Certificate, Proof, Round};
+use effects::Kind;
+use message_text::offer;
+use orders::{Call, Order};
+use queue::Message;
+use record::{Certificate, LENGTH, Proof, Round};
 use refusals::Refusal;
 use resolver::{Delivered, Fault};
 use views::View;
@@ -33,6 +37,8 @@ pub enum Answered {
     Open,
     /// What the state says of itself.
     Told,
+    /// How much waits in the queue.
+    Waiting,
 }
 
 /// What a call that records something answers.
@@ -84,7 +90,7 @@ impl From<bool> for Answered {
 impl<'a, B> Member<'a, B> {
     /// Asks which record is served for a view.
     fn produce(&self, view: View) -> Answered
-        ensures { result ≡ found_of (served (term self.now.resolver.state) view (held self.now.resolver.state)) }
+        ensures { result ≡ found_of (served (term self.now.resolver.calls.state) view (held self.now.resolver.calls.state)) }
     {
         let mut place = Certificate::Nullification {
             round: Round { epoch: 0, view: 0 },
@@ -99,40 +105,109 @@ impl<'a, B> Member<'a, B> {
 }
 
 impl<'a, B: Board> Member<'a, B> {
-    /// Carries an order out.
-    pub fn carry_out(&mut self, order: &Order) -> Answered
-        ensures { Carried B.asks result self.old self.new (meant order.now) }
+    /// Calls the resolver with evidence.
+    fn updated(&mut self, bytes: &[u8]) -> Answered
+        ensures { Called B.asks result self.old self.new (update bytes.now) }
     {
-        let Member {
-            resolver,
-            board,
-            verifier,
-            effects,
-            ..
-        } = self;
-        match order {
-            Order::Updated(bytes) => {
-                Answered::from(resolver.updated(board, bytes.as_slice(), effects))
-            }
-            Order::Certified { success, bytes } => {
-                Answered::from(resolver.certified(board, bytes.as_slice(), *success, effects))
-            }
-            Order::Replayed => Answered::from(resolver.replayed(board, effects)),
-            Order::Resolve {
+        Answered::from(
+            self.resolver
+                .updated(&mut self.board, bytes, &mut self.effects),
+        )
+    }
+
+    /// Calls the resolver with a verdict.
+    fn certified(&mut self, success: bool, bytes: &[u8]) -> Answered
+        ensures { Called B.asks result self.old self.new (judge success bytes.now) }
+    {
+        Answered::from(
+            self.resolver
+                .certified(&mut self.board, bytes, success, &mut self.effects),
+        )
+    }
+
+    /// Calls the resolver at the end of replay.
+    fn replayed(&mut self) -> Answered
+        ensures { Called B.asks result self.old self.new end }
+    {
+        Answered::from(self.resolver.replayed(&mut self.board, &mut self.effects))
+    }
+
+    /// Calls the resolver with a request.
+    fn resolve(&mut self, proposal: View, view: View, kind: Kind, target: Option<u32>) -> Answered
+        ensures { Called B.asks result self.old self.new (wish proposal view kind target) }
+    {
+        Answered::from(
+            self.resolver
+                .resolve(&mut self.board, proposal, view, kind, target),
+        )
+    }
+
+    /// Calls the resolver at once.
+    fn call(&mut self, call: &Call) -> Answered
+        ensures { Called B.asks result self.old self.new (calling call.now) }
+    {
+        match call {
+            Call::Updated(bytes) => self.updated(bytes.as_slice()),
+            Call::Certified { success, bytes } => self.certified(*success, bytes.as_slice()),
+            Call::Replayed => self.replayed(),
+            Call::Resolve {
                 proposal,
                 view,
                 kind,
                 target,
-            } => Answered::from(resolver.resolve(board, *proposal, *view, *kind, *target)),
-            Order::Deliver { view, asks, bytes } => Answered::from(resolver.deliver(
-                board,
-                verifier,
-                *view,
-                bytes.as_slice(),
-                asks.as_slice(),
-                effects,
-            )),
-            Order::Settled { view, kind } => Answered::from(resolver.settled(*view, *kind)),
+            } => self.resolve(*proposal, *view, *kind, *target),
+        }
+    }
+
+    /// Calls the resolver with a message that came out of the queue.
+    pub(crate) fn call_with(&mut self, message: &Message<[u8; LENGTH]>) -> Answered
+        ensures { Called B.asks result self.old self.new (call_of message.now) }
+    {
+        match message {
+            Message::Updated { payload, .. } => self.updated(payload),
+            Message::Certified {
+                success,
+                payload,
+                ..
+            } => self.certified(*success, payload),
+            Message::Replayed => self.replayed(),
+            Message::Resolve {
+                proposal,
+                view,
+                kind,
+                target,
+            } => self.resolve(*proposal, *view, *kind, *target),
+        }
+    }
+
+    /// Offers the queue what the resolver may be called with later.
+    fn offer(&mut self, call: &Call) -> Answered
+        ensures { Offered B.asks result self.old self.new (calling call.now) }
+    {
+        match offer(&mut self.queue, call) {
+            Ok(()) => Answered::Waiting,
+            Err(refusal) => Answered::Refused(refusal),
+        }
+    }
+
+    /// Carries an order out.
+    pub fn carry_out(&mut self, order: &Order) -> Answered
+        ensures { Carried B.asks result self.old self.new (meant order.now) }
+    {
+        match order {
+            Order::Call(call) => self.call(call),
+            Order::Offer(call) => self.offer(call),
+            Order::Deliver { view, asks, bytes } => Answered::from(
+                self.resolver.deliver(
+                    &mut self.board,
+                    &self.verifier,
+                    *view,
+                    bytes.as_slice(),
+                    asks.as_slice(),
+                    &mut self.effects,
+                ),
+            ),
+            Order::Settled { view, kind } => Answered::from(self.resolver.settled(*view, *kind)),
             Order::Produce(view) => self.produce(*view),
             Order::Asks => Answered::Open,
             Order::State => Answered::Told,

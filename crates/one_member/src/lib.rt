@@ -4,6 +4,7 @@
 pub mod admitted;
 pub mod admitting;
 pub mod carrying;
+mod draining;
 pub mod member;
 pub mod places;
 pub mod showing;

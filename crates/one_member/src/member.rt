@@ -1,25 +1,29 @@
-ghost use Rattle.std.specs.Prelude.{◌≡◌, []};
+ghost use Rattle.std.specs.Prelude.{◌≡◌, [], None};
 ghost use Rattle.effects.specs.Lists.{entries};
+ghost use Rattle.queue.specs.Pendings.{queue_of};
 ghost use Rattle.store.specs.Fresh.{fresh};
 ghost use Rattle.state.specs.States.{held, term, epoch_of, fits, enough};
 ghost use Rattle.terms.specs.Terms.{views as views_of};
 
 use crate::Admitted;
 use effects::{Effect, Effects};
-use record::Certificate;
+use history::Resolver;
+use queue::{Lent, Pending};
+use record::{Certificate, LENGTH};
 use record_text::Defaults;
-use resolver::Resolver;
 use store::Memory;
 use verifier::SeatVerifier;
 
-/// One member as a script runs it: its resolver, with its board and its verifier, and the list that it lends to each
-/// call.
+/// One member as a script runs it: its resolver, with its board and its verifier, the list that it lends to each call,
+/// and the messages that are to be called later.
 #[derive(Drop)]
 pub struct Member<'a, B> {
     pub(crate) resolver: Resolver<'a, Certificate>,
     pub(crate) board: B,
     pub(crate) verifier: SeatVerifier,
     pub(crate) effects: Effects<'a>,
+    /// Each certificate with all of its bytes.
+    pub(crate) queue: Pending<'a, [u8; LENGTH]>,
     /// The seats that stand behind a record that does not say.
     pub(crate) seats: u64,
 }
@@ -30,27 +34,30 @@ impl<'a, B> Member<'a, B> {
         admitted: Admitted,
         memory: Memory<'a, Certificate>,
         list: &'a mut [Effect],
+        lent: Lent<'a, [u8; LENGTH]>,
         board: B,
     ) -> Member<'a, B>
-        ensures values { held result.resolver.state ≡ fresh }
-        ensures fixed { (term result.resolver.state ≡ views_of admitted.term_length) × (epoch_of result.resolver.state ≡ admitted.epoch) × (result.verifier ≡ admitted.verifier) × (result.seats ≡ admitted.seats) }
+        ensures values { held result.resolver.calls.state ≡ fresh }
+        ensures fixed { (term result.resolver.calls.state ≡ views_of admitted.term_length) × (epoch_of result.resolver.calls.state ≡ admitted.epoch) × (result.verifier ≡ admitted.verifier) × (result.seats ≡ admitted.seats) }
         ensures board { result.board ≡ board }
-        ensures fits { fits result.resolver.state ≡ enough memory.entry }
+        ensures fits { fits result.resolver.calls.state ≡ enough memory.entry }
         ensures empty { entries result.effects ≡ [] }
         ensures list { result.effects.list.now ≡ list.old }
+        ensures queue { queue_of result.queue ≡ record { finalization = None; messages = [] } }
     {
         Member {
             resolver: Resolver::new(admitted.term_length, admitted.epoch, memory),
             board,
             verifier: admitted.verifier,
             effects: Effects::new(list),
+            queue: Pending::new(lent),
             seats: admitted.seats,
         }
     }
 
     /// What a record has where a script does not say.
     pub fn defaults(&self) -> Defaults
-        ensures { result ≡ record { epoch = epoch_of self.now.resolver.state; seats = self.now.seats } }
+        ensures { result ≡ record { epoch = epoch_of self.now.resolver.calls.state; seats = self.now.seats } }
     {
         Defaults {
             epoch: self.resolver.state().epoch(),

@@ -1,5 +1,6 @@
-ghost use Rattle.std.specs.Prelude.{◌≡◌, ◌≤◌, true, [], IfOk};
+ghost use Rattle.std.specs.Prelude.{◌≡◌, ◌≤◌, true, [], None, IfOk};
 ghost use Rattle.effects.specs.Lists.{entries, places};
+ghost use Rattle.queue.specs.Pendings.{queue_of};
 ghost use Rattle.store.specs.Fresh.{fresh};
 ghost use Rattle.state.specs.States.{held, term, epoch_of, fits};
 ghost use Rattle.terms.specs.Terms.{views as views_of};
@@ -7,7 +8,8 @@ ghost use Rattle.one_member.specs.Enough.{Enough};
 
 use crate::{Admitted, Member};
 use effects::Effect;
-use record::{Certificate, Proof, Round};
+use queue::{Lent, Message, PLACES};
+use record::{Certificate, LENGTH, Proof, Round};
 use state::{EFFECTS, ROWS};
 use std::alloc::{AllocError, Global};
 use store::Memory;
@@ -22,6 +24,8 @@ pub struct Places {
     certified_notarizations: Vec<Certificate>,
     uncertifiable_notarizations: Vec<Mark>,
     effects: Vec<Effect>,
+    queued_finalization: [Message<[u8; LENGTH]>; 1],
+    queued: [Message<[u8; LENGTH]>; PLACES],
 }
 
 impl Places {
@@ -41,16 +45,19 @@ impl Places {
             certified_notarizations: vec![in heap; record; ROWS]?,
             uncertifiable_notarizations: vec![in heap; mark; ROWS]?,
             effects: vec![in heap; Effect::Finalized(0); EFFECTS]?,
+            queued_finalization: [Message::Replayed; 1],
+            queued: [Message::Replayed; PLACES],
         })
     }
 
     /// A fresh member with this board, which these places are lent to.
     pub fn lend<B>(&mut self, admitted: Admitted, board: B) -> Member<'_, B>
-        ensures values { held result.resolver.state ≡ fresh }
-        ensures fixed { (term result.resolver.state ≡ views_of admitted.term_length) × (epoch_of result.resolver.state ≡ admitted.epoch) × (result.verifier ≡ admitted.verifier) × (result.seats ≡ admitted.seats) }
+        ensures values { held result.resolver.calls.state ≡ fresh }
+        ensures fixed { (term result.resolver.calls.state ≡ views_of admitted.term_length) × (epoch_of result.resolver.calls.state ≡ admitted.epoch) × (result.verifier ≡ admitted.verifier) × (result.seats ≡ admitted.seats) }
         ensures board { result.board ≡ board }
         ensures empty { entries result.effects ≡ [] }
-        ensures fits { Enough self.old → fits result.resolver.state ≡ true }
+        ensures queue { queue_of result.queue ≡ record { finalization = None; messages = [] } }
+        ensures fits { Enough self.old → fits result.resolver.calls.state ≡ true }
         ensures places { Enough self.old → 256 ≤ places result.effects }
     {
         let memory = Memory {
@@ -60,6 +67,11 @@ impl Places {
             certified_notarizations: self.certified_notarizations.as_mut_slice(),
             uncertifiable_notarizations: self.uncertifiable_notarizations.as_mut_slice(),
         };
-        Member::new(admitted, memory, self.effects.as_mut_slice(), board)
+        let lent = Lent::test(
+            self.queued_finalization.as_mut_slice(),
+            self.queued.as_mut_slice(),
+        )
+        .unwrap();
+        Member::new(admitted, memory, self.effects.as_mut_slice(), lent, board)
     }
 }

@@ -5,9 +5,11 @@ ghost use Rattle.state.specs.States.{held};
 
 use crate::{Answered, Member};
 use board::{Asks, Board};
+use history::Resolver;
 use listings::{Hex, Listed, Rows};
+use message_text::Waiting;
 use record::Certificate;
-use resolver::{Delivered, Resolver};
+use resolver::Delivered;
 use std::fmt;
 
 /// Whether something is so.
@@ -41,7 +43,7 @@ impl fmt::Display for Written {
 struct Numbers<'r, 'a>(&'r Resolver<'a, Certificate>);
 
 impl fmt::Display for Numbers<'_, '_> {
-    ghost output = { λ n. Some (numbers_text (held n.0.now.state)) };
+    ghost output = { λ n. Some (numbers_text (held n.0.now.calls.state)) };
 
     fn fmt<W: fmt::Write>(&self, f: &mut fmt::Formatter<W>) -> fmt::Result {
         let state = self.0.state();
@@ -60,7 +62,7 @@ impl fmt::Display for Numbers<'_, '_> {
 struct Tables<'r, 'a>(&'r Resolver<'a, Certificate>);
 
 impl fmt::Display for Tables<'_, '_> {
-    ghost output = { λ t. Some (tables_text (held t.0.now.state)) };
+    ghost output = { λ t. Some (tables_text (held t.0.now.calls.state)) };
 
     fn fmt<W: fmt::Write>(&self, f: &mut fmt::Formatter<W>) -> fmt::Result {
         let state = self.0.state();
@@ -147,6 +149,7 @@ impl<B: Board> fmt::Display for Shown<'_, '_, B> {
             Answered::Served(record) => write!(f, "{}", Written(record)),
             Answered::Open => write!(f, "{}", OpenAsks(&self.member.board)),
             Answered::Told => write!(f, "{}{}", Numbers(resolver), Tables(resolver)),
+            Answered::Waiting => write!(f, "{}", Waiting(&self.member.queue)),
         }
     }
 }

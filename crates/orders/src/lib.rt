@@ -7,6 +7,6 @@ pub mod order;
 pub mod reading;
 pub mod setup;
 
-pub use order::Order;
+pub use order::{Call, Order};
 pub use reading::read_order;
 pub use setup::{BoardKind, Setup, read_setup};

@@ -1,16 +1,40 @@
 ghost use Rattle.std.specs.Prelude.{◌≡◌};
-ghost use Rattle.orders.specs.Names.{name_of, verdict_of, kind_of};
+ghost use Rattle.orders.specs.Names.{call_name_of, name_of, verdict_of, kind_of};
 
 use effects::Kind;
 use words::Problem;
 
-/// The commands that a member is asked by.
+/// The calls that may also wait in a queue.
 #[derive(Clone, Copy, Debug)]
-pub enum Name {
+pub enum CallName {
     Updated,
     Certified,
     Replayed,
     Resolve,
+}
+
+impl TryFrom<&[u8]> for CallName {
+    type Error = Problem;
+
+    ghost try_from_gives = { λ w r. r ≡ call_name_of w.now };
+
+    fn try_from(word: &[u8]) -> Result<CallName, Problem> {
+        match word {
+            b"" => Err(Problem::MissingWord),
+            b"updated" => Ok(CallName::Updated),
+            b"certified" => Ok(CallName::Certified),
+            b"replayed" => Ok(CallName::Replayed),
+            b"resolve" => Ok(CallName::Resolve),
+            _ => Err(Problem::UnknownCommand),
+        }
+    }
+}
+
+/// The commands that a member is asked by.
+#[derive(Clone, Copy, Debug)]
+pub enum Name {
+    Call(CallName),
+    Offer,
     Deliver,
     Settled,
     Produce,
@@ -24,11 +48,11 @@ impl TryFrom<&[u8]> for Name {
     ghost try_from_gives = { λ w r. r ≡ name_of w.now };
 
     fn try_from(word: &[u8]) -> Result<Name, Problem> {
+        if let Ok(name) = CallName::try_from(word) {
+            return Ok(Name::Call(name));
+        }
         match word {
-            b"updated" => Ok(Name::Updated),
-            b"certified" => Ok(Name::Certified),
-            b"replayed" => Ok(Name::Replayed),
-            b"resolve" => Ok(Name::Resolve),
+            b"offer" => Ok(Name::Offer),
             b"deliver" => Ok(Name::Deliver),
             b"settled" => Ok(Name::Settled),
             b"produce" => Ok(Name::Produce),

@@ -1,9 +1,9 @@
 use board::Ask;
 use effects::Kind;
 
-/// What a line asks of the member.
+/// What a resolver is called with, at once or when it comes out of a queue.
 #[derive(Drop)]
-pub enum Order {
+pub enum Call {
     /// To record evidence.
     Updated(Vec<u8>),
     /// To record a verdict.
@@ -20,6 +20,15 @@ pub enum Order {
         kind: Kind,
         target: Option<u32>,
     },
+}
+
+/// What a line asks of the member.
+#[derive(Drop)]
+pub enum Order {
+    /// To call the resolver.
+    Call(Call),
+    /// To offer the queue what it may be called with later.
+    Offer(Call),
     /// To judge what a peer delivered.
     Deliver {
         view: u64,

@@ -9,7 +9,7 @@ use Rattle.script.specs.Answers.{term_answer, covers_answer, read_answer}
 use Rattle.script.specs.Commands.{command_of}
 use Rattle.script.specs.declared.answer.Answer.{Answer}
 use Rattle.script.specs.declared.command.Command.{Command}
-use Rattle.script.specs.declared.command.Command.TheVariants.{Nothing, Term, Covers, Read, Member, Order}
+use Rattle.script.specs.declared.command.Command.TheVariants.{Nothing, Term, Covers, Read, Member, Drain, Order}
 use Rattle.script.specs.declared.lines.Asked.{Asked}
 use Rattle.words.specs.Lines.{until, word_at, after_words, ended}
 use Rattle.words.specs.Numerals.{number_of, short_of}
@@ -31,18 +31,24 @@ covers_run bs = bind (short_of (word_at 0 bs)) (λ L. bind (number_of (word_at 1
 unfoldable pub read_by : Defaults → List ℕ → Result Answer Problem
 read_by d bs = bind (record_of d bs) (λ b. Ok (read_answer b))
 
+-- `K`
+unfoldable pub drain_run : List ℕ → Result ℕ Problem
+drain_run bs = bind (number_of (word_at 0 bs)) (λ k. bind (ended (after_words 1 bs)) (λ _. Ok k))
+
 -- what a line asks, by the bytes of its record
 pub data Sense : Type 0 where
   nothing : Sense
   answered : (answer : Answer) → Sense
   making : (setup : Setup) → Sense
   ordered : (order : Meant) → Sense
+  draining : (count : ℕ) → Sense
 
 abbrev pub sense : Asked → Sense
 sense Asked.Nothing = nothing
 sense (Asked.Answer a) = answered a
 sense (Asked.Member s) = making s
 sense (Asked.Order o) = ordered (meant o)
+sense (Asked.Drain k) = draining k
 
 -- what a command asks, by the line's words
 abbrev pub asked_by : Defaults → Command → List ℕ → Result Sense Problem
@@ -51,6 +57,7 @@ asked_by d Term bs = bind (term_run (after_words 1 bs)) (λ a. Ok (answered a))
 asked_by d Covers bs = bind (covers_run (after_words 1 bs)) (λ a. Ok (answered a))
 asked_by d Read bs = bind (read_by d (after_words 1 bs)) (λ a. Ok (answered a))
 asked_by d Member bs = bind (setup_of (after_words 1 bs)) (λ s. Ok (making s))
+asked_by d Drain bs = bind (drain_run (after_words 1 bs)) (λ k. Ok (draining k))
 asked_by d Order bs = bind (order_of d bs) (λ o. Ok (ordered o))
 
 -- what a line's text asks, without its comment

@@ -10,6 +10,7 @@ pub enum Command {
     Covers,
     Read,
     Member,
+    Drain,
     /// What only a member can answer: the word is none of the others.
     Order,
 }
@@ -24,6 +25,7 @@ impl From<&[u8]> for Command {
             b"covers" => Command::Covers,
             b"read" => Command::Read,
             b"member" => Command::Member,
+            b"drain" => Command::Drain,
             _ => Command::Order,
         }
     }

@@ -1,5 +1,5 @@
 ghost use Rattle.std.specs.Prelude.{◌≡◌};
-ghost use Rattle.script.specs.Lines.{term_run, covers_run, read_by, same, asked_run, sense};
+ghost use Rattle.script.specs.Lines.{term_run, covers_run, read_by, drain_run, same, asked_run, sense};
 ghost use Rattle.words.specs.Problems.{Told};
 
 use crate::answer;
@@ -21,6 +21,8 @@ pub enum Asked {
     Member(Setup),
     /// What only the member can answer.
     Order(Order),
+    /// To take as many messages as this out of the member's queue, and to make their calls.
+    Drain(u64),
 }
 
 /// Runs `term L VIEW`, by the words behind its name.
@@ -55,6 +57,16 @@ fn run_read(heap: Global, text: &[u8], defaults: Defaults) -> Result<Answer, Pro
     Ok(answer::read(bytes.as_slice()))
 }
 
+/// Reads `drain K`, by the words behind its name.
+#[tactic(auto, unfolding(crate::specs::Lines::drain_run, words::specs::Problems::bind))]
+fn read_drain(text: &[u8]) -> Result<u64, Problem>
+    ensures { result ≡ drain_run text.now }
+{
+    let count = number(word(text, 0))?;
+    end(after(text, 1))?;
+    Ok(count)
+}
+
 /// What a line asks. Records that do not say otherwise have the defaults.
 #[tactic(auto, unfolding(crate::specs::Lines::text_asked, words::specs::Problems::bind))]
 pub fn ask(heap: Global, line: &[u8], defaults: Defaults) -> Result<Asked, Problem>
@@ -68,6 +80,7 @@ pub fn ask(heap: Global, line: &[u8], defaults: Defaults) -> Result<Asked, Probl
         Command::Covers => run_covers(rest).map(Asked::Answer),
         Command::Read => run_read(heap, rest, defaults).map(Asked::Answer),
         Command::Member => read_setup(rest).map(Asked::Member),
+        Command::Drain => read_drain(rest).map(Asked::Drain),
         Command::Order => read_order(heap, text, defaults).map(Asked::Order),
     }
 }
