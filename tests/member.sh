@@ -39,5 +39,8 @@ million() {
 { printf 'read bytes '; million 0; } | expect 'many bytes' 0 'refused 1 record'
 { printf 'read bytes '; million 0; echo 0; } | expect 'many digits' 1 'line 1: error: odd number of hex digits'
 
-((bad == 0)) && echo 'tests/member.sh: 13 scripts, all as expected'
+# A longer script: what waits after each offer, and what comes out. Its last part has lines that are no command.
+expect 'the queue' 1 "$(<tests/member/queue.out)" <tests/member/queue.in
+
+((bad == 0)) && echo 'tests/member.sh: 14 scripts, all as expected'
 exit "$bad"

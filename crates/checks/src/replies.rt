@@ -15,7 +15,7 @@ fn reply(heap: Global, line: &[u8]) -> Result<String, Fail> {
 #[test]
 fn answers(rt: HostRuntime) -> Result<(), Fail> {
     let heap = rt.alloc();
-    let rows: [(&[u8], &str); 13] = [
+    let rows: [(&[u8], &str); 15] = [
         (b"", ""),
         (b"   # term 4 5 \xff", ""),
         (b"  term   4  5  # \xff", "start 5 end 8 next 9"),
@@ -32,6 +32,8 @@ fn answers(rt: HostRuntime) -> Result<(), Fail> {
         (b"settled 18446744073709551615 nullification", ""),
         (b"deliver 5 background,notarization,background bytes -", ""),
         (b"resolve 9 5 notarization 4294967295", ""),
+        (b"offer certified fail bytes -", ""),
+        (b"drain 18446744073709551615", ""),
     ];
     for (line, expected) in rows {
         assert!(rt; reply(heap, line)?.as_str() == expected);
@@ -42,7 +44,7 @@ fn answers(rt: HostRuntime) -> Result<(), Fail> {
 #[test]
 fn errors(rt: HostRuntime) -> Result<(), Fail> {
     let heap = rt.alloc();
-    let rows: [(&[u8], &str); 31] = [
+    let rows: [(&[u8], &str); 33] = [
         (b"terms 4 5", "line 3: error: unknown command"),
         (b"term\t4 5", "line 3: error: unknown command"),
         (b"\xff", "line 3: error: unknown command"),
@@ -71,7 +73,9 @@ fn errors(rt: HostRuntime) -> Result<(), Fail> {
         (b"read bytes 0", "line 3: error: odd number of hex digits"),
         (b"read bytes 0A", "line 3: error: not lower-case hex digits"),
         (b"read bytes 00 00", "line 3: error: a word too many"),
-        (b"offer replayed", "line 3: error: unknown command"),
+        (b"offer state", "line 3: error: unknown command"),
+        (b"offer", "line 3: error: a word is missing"),
+        (b"drain 64 1", "line 3: error: a word too many"),
         (b"member 4 7 4", "line 3: error: a word is missing"),
         (b"member 4 7 4 3 row", "line 3: error: a word too many"),
         (
