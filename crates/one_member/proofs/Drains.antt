@@ -3,11 +3,11 @@ use Rattle.std.proofs.Common.{◌≡◌, ℕ, List, [], ◌∷◌, ◌++◌, Opt
 use Rattle.std.proofs.Math.Seq.{take-append_seam}
 use Rattle.std.specs.Io.KnownBytes.{Appends}
 use Rattle.std.proofs.KnownBytes.{Appends-nil, Appends-trans}
+use Rattle.answers.specs.declared.answered.Answered.{Answered}
 use Rattle.board.specs.declared.open.Open.{Open}
 use Rattle.message_text.specs.Offers.{call_of}
 use Rattle.one_member.specs.Carried.{QueueAlone, Called}
 use Rattle.one_member.specs.Drained.{first_line, line_text, Steps, Made, Drained}
-use Rattle.one_member.specs.declared.carrying.Answered.{Answered}
 use Rattle.one_member.specs.declared.member.Member.{Member}
 use Rattle.orders.specs.Orders.{Calling, update, judge, end, wish}
 use Rattle.queue.specs.declared.message.Message.{Message}

@@ -1,5 +1,9 @@
 -- What a member answers to an order, and what the order changes.
 use Rattle.std.specs.Prelude.{◌≡◌, ℕ, Bool, cond, List, Some, None, Option, Ok, Err, Result, MatchResult}
+use Rattle.answers.specs.Answered.{done_of, yes_no, asked_of, judged_of, found_of}
+use Rattle.answers.specs.Texts.{view_in}
+use Rattle.answers.specs.declared.answered.Answered as answered
+use Rattle.answers.specs.declared.answered.Answered.TheVariants.{Refused, Open as Listed, Told, Waiting}
 use Rattle.board.specs.Boards.{requested}
 use Rattle.board.specs.declared.open.Open.{Open}
 use Rattle.effects.specs.Lists.{places}
@@ -9,13 +13,10 @@ use Rattle.queue.specs.Pendings.{queue_of}
 use Rattle.record.specs.Certificates.{kind_in, proposal_in}
 use Rattle.record.specs.Format.{reading}
 use Rattle.record.specs.declared.certificate.Certificate.{Certificate}
-use Rattle.one_member.specs.declared.carrying.Answered as answered
-use Rattle.one_member.specs.declared.carrying.Answered.TheVariants.{Done, Refused, Asked, NotNeeded, Judged as Brought, Yes, No, Nothing as NoRecord, Served, Open as Listed, Told, Waiting}
 use Rattle.one_member.specs.declared.member.Member.{Member}
 use Rattle.refusals.specs.declared.Refusal.{Refusal}
 use Rattle.resolver.specs.Calls.{answer_of, Taken, Judged, Ended, request_answer, If}
 use Rattle.resolver.specs.Deliveries.{delivery_test, tested, delivery_answer, is_valid, if_valid, Nothing}
-use Rattle.resolver.specs.Faults.{refusal_of}
 use Rattle.resolver.specs.declared.fault.Fault.{Fault}
 use Rattle.resolver.specs.declared.outcome.Delivered.{Delivered}
 use Rattle.state.specs.Answers.{Answer, refused_if, too_few, if_read, evidence_answer, verdict_answer, marker_answer}
@@ -26,31 +27,9 @@ use Rattle.state.specs.States.{held, term, epoch_of, fits}
 use Rattle.state.specs.declared.fault.Fault.TheVariants.{TooFewPlaces}
 use Rattle.verifier.specs.Seats.{seats_accept}
 
-abbrev pub done_of : Result (Unit {0}) Fault → answered.Answered
-done_of (Ok _) = Done
-done_of (Err f) = Refused (refusal_of f)
-
-abbrev pub yes_no : Bool → answered.Answered
-yes_no b = cond b Yes No
-
-abbrev pub asked_of : Result Bool Fault → answered.Answered
-asked_of (Ok b) = cond b Asked NotNeeded
-asked_of (Err f) = Refused (refusal_of f)
-
-abbrev pub judged_of : Result Delivered Fault → answered.Answered
-judged_of (Ok d) = Brought d
-judged_of (Err f) = Refused (refusal_of f)
-
-abbrev pub found_of : Option Certificate → answered.Answered
-found_of None = NoRecord
-found_of (Some c) = Served c
-
 abbrev pub waiting_of : Result (Unit {0}) Refusal → answered.Answered
 waiting_of (Ok _) = Waiting
 waiting_of (Err f) = Refused f
-
-abbrev pub view_in : Certificate → ℕ
-view_in c = (proposal_in c).round.view
 
 abbrev pub epoch_in : Certificate → ℕ
 epoch_in c = (proposal_in c).round.epoch

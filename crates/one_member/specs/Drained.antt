@@ -1,12 +1,12 @@
 -- What comes of a drain: the calls that it makes, and what it writes.
 use Rattle.std.specs.Prelude.{◌≡◌, ℕ, List, [], ◌∷◌, ◌++◌, length, codes, decimal, Option}
 use Rattle.std.specs.Io.KnownBytes.{Appends}
+use Rattle.answers.specs.declared.answered.Answered.{Answered}
 use Rattle.board.specs.declared.open.Open.{Open}
 use Rattle.message_text.specs.Offers.{call_of}
 use Rattle.message_text.specs.Texts.{message_text}
 use Rattle.one_member.specs.Carried.{QueueAlone, Called}
 use Rattle.one_member.specs.Texts.{answer_text}
-use Rattle.one_member.specs.declared.carrying.Answered.{Answered}
 use Rattle.one_member.specs.declared.member.Member.{Member}
 use Rattle.queue.specs.declared.message.Message.{Message}
 

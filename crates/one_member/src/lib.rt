@@ -11,7 +11,6 @@ pub mod showing;
 
 pub use admitted::Admitted;
 pub use admitting::admit;
-pub use carrying::Answered;
 pub use member::Member;
 pub use places::Places;
 pub use showing::Shown;

@@ -1,113 +1,13 @@
 ghost use Rattle.std.specs.Prelude.{◌≡◌, Some};
-ghost use Rattle.board.specs.Left.{shown};
-ghost use Rattle.one_member.specs.Texts.{yes_text, record_text, numbers_text, tables_text, taken_text, asks_text, answer_text};
-ghost use Rattle.state.specs.States.{held};
+ghost use Rattle.one_member.specs.Texts.{answer_text};
 
-use crate::{Answered, Member};
-use board::{Asks, Board};
-use history::Resolver;
-use listings::{Hex, Listed, Rows};
+use crate::Member;
+use answers::{Answered, Numbers, OpenAsks, Tables, Taking, Written};
+use board::Board;
+use listings::Listed;
 use message_text::Waiting;
-use record::Certificate;
 use resolver::Delivered;
 use std::fmt;
-
-/// Whether something is so.
-#[derive(Clone, Copy)]
-struct Truth(bool);
-
-impl fmt::Display for Truth {
-    ghost output = { λ t. Some (yes_text t.0) };
-
-    fn fmt<W: fmt::Write>(&self, f: &mut fmt::Formatter<W>) -> fmt::Result {
-        f.write_str(if self.0 { "yes" } else { "no" })
-    }
-}
-
-/// A record: its kind, its view and its bytes.
-#[derive(Clone, Copy)]
-struct Written(Certificate);
-
-impl fmt::Display for Written {
-    ghost output = { λ r. Some (record_text r.0) };
-
-    fn fmt<W: fmt::Write>(&self, f: &mut fmt::Formatter<W>) -> fmt::Result {
-        let header = self.0.header();
-        let bytes = self.0.write();
-        write!(f, "{} {} {}", header.kind, header.view, Hex(&bytes))
-    }
-}
-
-/// The numbers of a state.
-#[derive(Drop)]
-struct Numbers<'r, 'a>(&'r Resolver<'a, Certificate>);
-
-impl fmt::Display for Numbers<'_, '_> {
-    ghost output = { λ n. Some (numbers_text (held n.0.now.calls.state)) };
-
-    fn fmt<W: fmt::Write>(&self, f: &mut fmt::Formatter<W>) -> fmt::Result {
-        let state = self.0.state();
-        let (floor, current) = (state.floor(), state.current_view());
-        let (cursor, finalized) = (state.cursor(), state.last_finalized());
-        let replay = Truth(state.is_replaying());
-        write!(
-            f,
-            "floor {floor} current {current} cursor {cursor} finalized {finalized} replay {replay}"
-        )
-    }
-}
-
-/// The tables of a state.
-#[derive(Drop)]
-struct Tables<'r, 'a>(&'r Resolver<'a, Certificate>);
-
-impl fmt::Display for Tables<'_, '_> {
-    ghost output = { λ t. Some (tables_text (held t.0.now.calls.state)) };
-
-    fn fmt<W: fmt::Write>(&self, f: &mut fmt::Formatter<W>) -> fmt::Result {
-        let state = self.0.state();
-        let nullifications = Rows(state.nullifications());
-        let pending = Rows(state.pending_notarizations());
-        let certified = Rows(state.certified_notarizations());
-        let failed = Rows(state.uncertifiable_notarizations());
-        write!(
-            f,
-            " nullifications {nullifications} pending {pending} certified {certified} failed {failed}"
-        )
-    }
-}
-
-/// Whether a delivered record was taken.
-#[derive(Clone, Copy)]
-struct Taking(bool);
-
-impl fmt::Display for Taking {
-    ghost output = { λ t. Some (taken_text t.0) };
-
-    fn fmt<W: fmt::Write>(&self, f: &mut fmt::Formatter<W>) -> fmt::Result {
-        f.write_str(if self.0 { " taken" } else { " not taken" })
-    }
-}
-
-/// The open asks of a board.
-#[derive(Drop)]
-struct OpenAsks<'b, B>(&'b B);
-
-impl<B: Board> fmt::Display for OpenAsks<'_, B> {
-    ghost output = { λ a. Some (asks_text (shown (B.asks a.0.now))) };
-
-    fn fmt<W: fmt::Write>(&self, f: &mut fmt::Formatter<W>) -> fmt::Result {
-        let mut asks = Asks::new(self.0);
-        let Some(first) = asks.next() else {
-            return f.write_str("none");
-        };
-        write!(f, "{first}")?;
-        for asked in asks {
-            write!(f, ", {asked}")?;
-        }
-        Ok(())
-    }
-}
 
 /// A member's answer, as a script shows it.
 #[derive(Drop)]

@@ -15,6 +15,7 @@ loop-message-preserved g c =
     let w = g.W.Write.contents c.writeln.new.self in
     let n = c.call_with-answered.new.self in
     let called = c.call_with-answered.ensures in
-    let more = made_more g.B.Board.asks (take i xs) _ c.args.self.now c.loop-message.self n u _ w _ c.loop-message.invariant.1 called (search rules) in
-    (queue_kept g.B.Board.asks _ c.loop-message.self n _ called ∙ c.loop-message.invariant.0,
-     subst (λ ys. Made g.B.Board.asks ys c.args.self.now n u w) (sym (take_more xs i _ (search rules))) more)
+    let more = made_more g.B.Board.asks (take i xs) _ c.args.self.now c.loop-message.self n u _ w _ c.loop-message.invariant.1 called (search rules) in (
+      queue_kept g.B.Board.asks _ c.loop-message.self n _ called ∙ c.loop-message.invariant.0,
+      subst (λ ys. Made g.B.Board.asks ys c.args.self.now n u w) (sym (take_more xs i _ (search rules))) more,
+    )

@@ -16,6 +16,6 @@ returns-clause-calls g c =
     let room = ap (λ n. (queues.drained n q).0) (length-take-le _ _ (search (rules, arith)) ∙ c.min-places.ensures) in
     let count = c.drain-drained.ensures.count ∙ ap length room in
     drained g.B.Board.asks c.call_with_each.result _ _ c.args.self.now _ c.call_with_each.new.self u v (g.W.Write.contents c.call_with_each.new.out) c.call_with_each.ensures.calls
-      (out ∙ room)
-      (record { resolver = refl; board = refl; verifier = refl; effects = refl; seats = refl })
-      (subst (λ n. Appends u v (first_line n)) count (search rules))
+    (out ∙ room)
+    (record { resolver = refl; board = refl; verifier = refl; effects = refl; seats = refl })
+    (subst (λ n. Appends u v (first_line n)) count (search rules))

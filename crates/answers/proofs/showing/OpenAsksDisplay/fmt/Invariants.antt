@@ -1,8 +1,8 @@
 use Rattle.std.proofs.Common.{◌≡◌, ◌++◌, flat_map}
 use Rattle.std.specs.Fmt.{HasWritten, IsPlainFormatter}
 use Rattle.board.specs.Left.{from_next}
-use Rattle.one_member.specs.Texts.{one_more}
-use Rattle.one_member.proofs.showing.OpenAsksDisplay.fmt.Given as goal
+use Rattle.answers.specs.Texts.{one_more}
+use Rattle.answers.proofs.showing.OpenAsksDisplay.fmt.Given as goal
 
 -- the asks that were gone through are written, and the others are left
 abbrev pub invariant-loop-asked : goal.invariant-loop-asked
