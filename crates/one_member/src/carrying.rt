@@ -1,8 +1,8 @@
 ghost use Rattle.std.specs.Prelude.{◌≡◌};
-ghost use Rattle.message_text.specs.Offers.{call_of};
-ghost use Rattle.orders.specs.Orders.{update, judge, end, wish, calling, meant};
 ghost use Rattle.answers.specs.Answered.{found_of};
+ghost use Rattle.message_text.specs.Offers.{call_of};
 ghost use Rattle.one_member.specs.Carried.{Called, Offered, Carried};
+ghost use Rattle.orders.specs.Orders.{update, judge, end, wish, calling, meant};
 ghost use Rattle.state.specs.Serving.{served};
 ghost use Rattle.state.specs.States.{held, term};
 
@@ -71,7 +71,7 @@ impl<'a, B: Board> Member<'a, B> {
         )
     }
 
-    /// Calls the resolver at once.
+    /// Calls the resolver as an order says.
     fn call(&mut self, call: &Call) -> Answered
         ensures { Called B.asks result self.old self.new (calling call.now) }
     {

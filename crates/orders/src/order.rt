@@ -27,7 +27,7 @@ pub enum Call {
 pub enum Order {
     /// To call the resolver.
     Call(Call),
-    /// To offer the queue what it may be called with later.
+    /// To offer the queue what the resolver may be called with later.
     Offer(Call),
     /// To judge what a peer delivered.
     Deliver {
