@@ -1,3 +1,6 @@
+pub mod Repeated
+pub mod Queued
 pub mod Finalized
 pub mod Absorbed
 pub mod Same
+pub mod Waiting
