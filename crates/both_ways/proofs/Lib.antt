@@ -1,3 +1,5 @@
+pub mod Ends
+pub mod Called
 pub mod Repeated
 pub mod Queued
 pub mod Finalized

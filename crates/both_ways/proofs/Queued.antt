@@ -77,11 +77,11 @@ module _ {R P : Type 0} (read : P → Result R Misread) (viewed : R → ℕ) (so
   unfolding said
   said_more ms m = said_append read ms (m ∷ [])
 
-  same_all : (c h i : List (Call R)) → Same viewed sort L h i → Same viewed sort L (c ++ h) (c ++ i)
+  pub same_all : (c h i : List (Call R)) → Same viewed sort L h i → Same viewed sort L (c ++ h) (c ++ i)
   same_all [] h i s = s
   same_all (x ∷ c) h i s = same_more viewed sort L x (c ++ h) (c ++ i) (same_all c h i s)
 
-  sound_append : (ms ns : List (Message P)) → AllSound read viewed sort ms → AllSound read viewed sort ns → AllSound read viewed sort (ms ++ ns)
+  pub sound_append : (ms ns : List (Message P)) → AllSound read viewed sort ms → AllSound read viewed sort ns → AllSound read viewed sort (ms ++ ns)
   sound_append [] ns a b = b
   sound_append (m ∷ ms) ns a b = (a.0, sound_append ms ns a.1 b)
 
@@ -297,3 +297,39 @@ module _ {R P : Type 0} (read : P → Result R Misread) (viewed : R → ℕ) (so
               of_verdicts = λ p t. said_before m ms (by_verdict p) (i.of_verdicts p (ap (λ xs. some (by_verdict p) (said read xs)) whole ∙ some_parts (by_verdict p) (held_list f) ahead behind o ∙ (let a = some_parts (by_verdict p) (held_list f) ahead behind (widened o) in let e = widened_verdicts read viewed sort L positive p o in let u = t in grind (arith, common_steps))));
             })
       ]
+
+  one_of : (o : Option ℕ) → is_some o ≡ true → (j : ℕ) × (o ≡ Some j)
+  one_of None t = absurd (true≢false (sym t))
+  one_of (Some j) t = (j, refl)
+
+  -- one more message
+  inv_offered : (m : Message P) (ms cs : List (Message P)) (q : Queue P) → Sound read viewed sort m → finds_full m q ≡ false → Fair (said read (ms ++ m ∷ [])) → Inv ms cs q → Inv (ms ++ m ∷ []) cs (offered m q)
+  inv_offered m ms cs q s room fair i = rw (offered_steps m q) (elim (cases_Bool (is_marker m)) [
+    | inl mark ↦ rw mark (let free : is_full q ≡ false = grind (arith, common_steps) in rw free (put_last m ms cs q s i))
+    | inr other ↦ rw other (elim (cases_Bool (is_outdated (view_of m) q.finalization)) [
+      | inl old ↦ rw old (outdated m ms cs q.finalization q.messages s other old fair i)
+      | inr newer ↦ rw newer (elim (cases_Bool (finalizes_message m)) [
+        | inl last ↦ rw last (a_finalization m last s newer fair)
+        | inr waits ↦ rw waits (elim (cases_Bool (is_repeated m q.messages)) [
+          | inl again ↦ let j = one_of (found_at m q.messages) again in rw again (repeated m ms cs q.finalization q.messages j.0 s j.1 fair i)
+          | inr first ↦ rw first (let free : is_full q ≡ false = grind (arith, common_steps) in rw free (put_last m ms cs q s i))
+        ])
+      ])
+    ])
+  ])
+    where
+      a_finalization : (m : Message P) → finalizes_message m ≡ true → Sound read viewed sort m → is_outdated (view_of m) q.finalization ≡ false → Fair (said read (ms ++ m ∷ [])) → Inv (ms ++ m ∷ []) cs (finalized_queue m q)
+      a_finalization (Updated Finalization w p) last s newer fair = finalize w p ms cs q s newer fair i
+      a_finalization (Updated Notarization w p) last s newer fair = absurd (true≢false (sym last))
+      a_finalization (Updated Nullification w p) last s newer fair = absurd (true≢false (sym last))
+      a_finalization (Certified k w b p) last s newer fair = absurd (true≢false (sym last))
+      a_finalization (Resolve a w k t) last s newer fair = absurd (true≢false (sym last))
+      a_finalization Replayed last s newer fair = absurd (true≢false (sym last))
+
+  -- however it was emptied in between
+  pub through : (ms cs : List (Message P)) (q : Queue P) → Through ms cs q → AllSound read viewed sort ms → Fair (said read ms) → Inv ms cs q
+  through _ _ _ nothing_offered sound fair = inv_empty
+  through _ cs _ (offered_next {ms} {q = q} m past room) sound fair =
+      let parts = sound_parts ms (m ∷ []) sound in
+      inv_offered m ms cs q parts.1.0 room fair (through ms cs q past parts.0 (fair_before (said_by read m) (said read ms) (subst Fair (said_more ms m) fair)))
+  through ms _ _ (emptied {cs = cs} {q = q} n past) sound fair = inv_emptied n ms cs q (through ms cs q past sound fair)
