@@ -1,11 +1,8 @@
-//! Calling directly and calling through a queue.
+//! Messages called directly, and through a queue: both end alike.
 #![tactic(auto)]
 
-ghost use Rattle.std.specs.Prelude.{◌≡◌};
+pub mod begun;
+pub mod calling;
 
-/// Nothing yet.
-pub fn nothing() -> u8
-    ensures { result ≡ 0 }
-{
-    0
-}
+pub use begun::{Begun, begin};
+pub use calling::call;

@@ -38,7 +38,7 @@ module _ {R : Type 0} {g : viewable.Ghosts R} (sort : R → Kind) (era : R → �
       same_parts l l' e e' b b' p q r = rw (p, q, r) refl
 
   -- a call as its contract says it leads to the next point
-  next_point : (e : Event R) (s s' : State R g) (os os' : List Open) (u : Use R) (h : List (Event R)) → Reached sort era u h s os → Step sort era (use_of s u.approved) e s s' os os' → Point sort era u (e ∷ h) s' os'
+  pub next_point : (e : Event R) (s s' : State R g) (os os' : List Open) (u : Use R) (h : List (Event R)) → Reached sort era u h s os → Step sort era (use_of s u.approved) e s s' os os' → Point sort era u (e ∷ h) s' os'
   next_point e s s' os os' u h past d =
       point sort era u (e ∷ h) s' os' (then e past (subst (λ w. Step sort era w e s s' os os') (same_use u s (at_each sort era u h s os past).suits) d))
 
