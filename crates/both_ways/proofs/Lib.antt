@@ -1,3 +1,4 @@
+pub mod Offering
 pub mod InTurn
 pub mod Ends
 pub mod Called

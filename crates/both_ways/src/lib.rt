@@ -3,6 +3,10 @@
 
 pub mod begun;
 pub mod calling;
+pub mod fault;
+pub mod queueing;
 
 pub use begun::{Begun, begin};
-pub use calling::call;
+pub use calling::{call, call_all};
+pub use fault::Fault;
+pub use queueing::empty_into;

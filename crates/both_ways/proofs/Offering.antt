@@ -1,0 +1,92 @@
+-- Messages that are offered one after the other.
+use Rattle.std.proofs.Common.{◌≡◌, ℕ, suc, ◌+◌, ◌<◌, ◌≤◌, Bool, true, false, cond, List, [], ◌∷◌, ◌++◌, length, take, drop, get_or, Ok, Err, Result, MatchResult, append-nil, append_assoc, sym, refl, ap, ◌∙◌, subst, arith}
+use Rattle.std.proofs.lemmas.Bool.{cases_Bool}
+use Rattle.std.proofs.lemmas.Grind.{common_steps}
+use Rattle.board.specs.declared.open.Open.{Open}
+use Rattle.both_ways.specs.declared.fault.Fault.{Fault}
+use Rattle.both_ways.specs.declared.fault.Fault.TheVariants.{Resolver as OfResolver, Queue as OfQueue}
+use Rattle.queue.proofs.Laws.{refused_same}
+use Rattle.queue.specs.Queues.{Queue, offered, finds_full, offer_answer, drained}
+use Rattle.queue.specs.declared.fault.Fault.{Fault as QueueFault}
+use Rattle.queue.specs.declared.fault.Fault.TheVariants.{Full}
+use Rattle.queue.specs.declared.message.Message.{Message}
+use Rattle.record.specs.declared.fault.Fault.{Fault as Misread}
+use Rattle.record.specs.declared.kind.Kind.{Kind}
+use Rattle.resolver.specs.declared.fault.Fault.{Fault as Refused}
+use Rattle.state.specs.declared.state.State.{State}
+use Rattle.views.specs.declared.Viewable as viewable
+use Rattle.history.specs.Events.{Event, Use}
+use Rattle.history.specs.Uses.{Reached}
+use Rattle.both_ways.specs.Calling.{AllCalled, StopsAt}
+use Rattle.both_ways.specs.Queueing.{AllThrough, FullAt, RefusedAt, Stops}
+use Rattle.both_ways.specs.Runs.{CalledInOrder, Through, offered_next, emptied}
+
+taken : {P : Type 0} (m : Message P) (q : Queue P) (r : Result (Unit {0}) QueueFault) → r ≡ offer_answer m q → r ≡ Ok tt → finds_full m q ≡ false
+taken m q r answer a = grind (arith, common_steps)
+
+module _ {R P : Type 0} {g : viewable.Ghosts R} (read : P → Result R Misread) (sort : R → Kind) (era : R → ℕ) where
+  pub none_offered_yet : (q : Queue P) (s : State R g) (os : List Open) → AllThrough read sort era [] q q s s os os
+  none_offered_yet q s os u before out h past called reached = (out, h, subst (λ ms. Through ms out q) (sym (append-nil before)) past, called, reached)
+
+  pub all_offered : (ms ns : List (Message P)) (q q' q'' : Queue P) (s s' s'' : State R g) (os os' os'' : List Open) → AllThrough read sort era ms q q' s s' os os' → AllThrough read sort era ns q' q'' s' s'' os' os'' → AllThrough read sort era (ms ++ ns) q q'' s s'' os os''
+  all_offered ms ns q q' q'' s s' s'' os os' os'' a b u before out h past called reached =
+      let x = a u before out h past called reached in
+      let y = b u (before ++ ms) x.0 x.1 x.2 x.3 x.4 in
+      (y.0, y.1, subst (λ xs. Through xs y.0 q'') (append_assoc before ms ns) y.2, y.3, y.4)
+
+  -- one message, where the queue takes it, and what came out of it
+  just_offered : (m : Message P) (q : Queue P) (s : State R g) (os : List Open) → finds_full m q ≡ false → AllThrough read sort era (m ∷ []) q (offered m q) s s os os
+  just_offered m q s os room u before out h past called reached = (out, h, offered_next m past room, called, reached)
+
+  just_emptied : (n : ℕ) (q : Queue P) (s s' : State R g) (os os' : List Open) → AllCalled read sort era (drained n q).0 s s' os os' → AllThrough read sort era [] q (drained n q).1 s s' os os'
+  just_emptied n q s s' os os' all u before out h past called reached =
+      let x = all u out h called reached in
+      (out ++ (drained n q).0, x.0, subst (λ ms. Through ms (out ++ (drained n q).0) (drained n q).1) (sym (append-nil before)) (emptied n past), x.1, x.2)
+
+  module _ (m : Message P) (q q' : Queue P) (r : Result (Unit {0}) QueueFault) (answer : r ≡ offer_answer m q) (is : q' ≡ offered m q) where
+    module _ (n : ℕ) (q'' : Queue P) (left : q'' ≡ (drained n q').1) (s s' : State R g) (os os' : List Open) where
+      pub one_offered : r ≡ Ok tt → AllCalled read sort era (drained n q').0 s s' os os' → AllThrough read sort era (m ∷ []) q q'' s s' os os'
+      one_offered a all = rw left (all_offered (m ∷ []) [] q q' (drained n q').1 s s s' os os os' (rw is (just_offered m q s os (taken m q r answer a))) (just_emptied n q' s s' os os' all))
+
+      pub one_refused : r ≡ Ok tt → (f : Refused) → StopsAt read sort era (drained n q').0 f s s' os os' → RefusedAt read sort era (m ∷ []) f q q'' s s' os os'
+      one_refused a f stops = record {
+        first = m ∷ [];
+        others = [];
+        are = refl;
+        queue = q';
+        state = s;
+        asks = os;
+        offered = rw is (just_offered m q s os (taken m q r answer a));
+        places = n;
+        left = left;
+        stops = stops;
+      }
+
+    pub one_full : (s : State R g) (os : List Open) (f : QueueFault) → r ≡ Err f → (f ≡ Full) × FullAt read sort era (m ∷ []) q q' s s os os
+    one_full s os f e =
+        let full : finds_full m q ≡ true = grind (arith, common_steps) in
+        let same : q' ≡ q = is ∙ refused_same m q full in
+        (grind (arith, common_steps), record { first = []; refused = m; others = []; are = refl; offered = subst (λ r. AllThrough read sort era [] q r s s os os) (sym same) (none_offered_yet q s os); full = rw same full })
+
+  -- where the first of them were offered and a later one stops
+  pub stops_later : (ms ns all : List (Message P)) (q q' q'' : Queue P) (s s' s'' : State R g) (os os' os'' : List Open) (more : List (Message P)) (f : Fault) → all ≡ ms ++ (ns ++ more) → AllThrough read sort era ms q q' s s' os os' → Stops read sort era ns f q' q'' s' s'' os' os'' → Stops read sort era all f q q'' s s'' os os''
+  stops_later ms ns all q q' q'' s s' s'' os os' os'' more (OfQueue f) are a (is, stop) = (is, record {
+    first = ms ++ stop.first;
+    refused = stop.refused;
+    others = stop.others ++ more;
+    are = are ∙ ap (λ xs. ms ++ (xs ++ more)) stop.are ∙ ap (λ xs. ms ++ xs) (append_assoc stop.first (stop.refused ∷ stop.others) more) ∙ sym (append_assoc ms stop.first (stop.refused ∷ (stop.others ++ more)));
+    offered = all_offered ms stop.first q q' q'' s s' s'' os os' os'' a stop.offered;
+    full = stop.full;
+  })
+  stops_later ms ns all q q' q'' s s' s'' os os' os'' more (OfResolver f) are a stop = record {
+    first = ms ++ stop.first;
+    others = stop.others ++ more;
+    are = are ∙ ap (λ xs. ms ++ (xs ++ more)) stop.are ∙ ap (λ xs. ms ++ xs) (append_assoc stop.first stop.others more) ∙ sym (append_assoc ms stop.first (stop.others ++ more));
+    queue = stop.queue;
+    state = stop.state;
+    asks = stop.asks;
+    offered = all_offered ms stop.first q q' stop.queue s s' stop.state os os' stop.asks a stop.offered;
+    places = stop.places;
+    left = stop.left;
+    stops = stop.stops;
+  }
