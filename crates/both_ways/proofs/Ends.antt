@@ -27,7 +27,8 @@ use Rattle.history.specs.Uses.{Reached}
 use Rattle.history.proofs.Counted.{finalized_low}
 use Rattle.history.proofs.Uses.{law, at_each}
 use Rattle.both_ways.specs.Ends.{Alike, Emptied, BothWays, EndAlike}
-use Rattle.both_ways.specs.Runs.{said, VerdictsAgree}
+use Rattle.both_ways.specs.Running.{Ran, FreshEndAlike}
+use Rattle.both_ways.specs.Runs.{none_called, Through, nothing_offered, said, VerdictsAgree}
 use Rattle.both_ways.proofs.Called.{all_called, all_sound}
 use Rattle.both_ways.proofs.Queued.{inside, through}
 use Rattle.both_ways.proofs.Same.{Same, same_sym, same_trans, same_settles}
@@ -116,6 +117,9 @@ module _ {R : Type 0} (viewed : R → ℕ) (sort : R → Kind) (L : ℕ) (positi
     served_alike : AgreeAbove h → AgreeAbove i → (v : ℕ) → is_some (serves viewed sort L v i) ≡ is_some (serves viewed sort L v h)
     served_alike agree agree' v = serves_if i agree' v ∙ rw (s.top, s.floor) (rw (pass_alike v, floor_alike) (cover_part v)) ∙ sym (serves_if h agree v)
 
+abbrev queue_with : {P : Type 0} → Option (Message P) → List (Message P) → Queue P
+queue_with f ns = record { finalization = f; messages = ns }
+
 -- every place is that of an ask
 same_places : (os ps : List Open) → ((v : ℕ) → lookup (place v Background) ps ≡ lookup (place v Background) os) → ((k : Ask) (v : ℕ) → lookup (place v (Ancestry k)) ps ≡ lookup (place v (Ancestry k)) os) → (n : ℕ) → lookup n ps ≡ lookup n os
 same_places os ps behind ahead n = elim (cases_eq (n % 3) 0) [
@@ -179,3 +183,31 @@ module _ {R P : Type 0} (g : viewable.Ghosts R) (read : P → Result R Misread) 
       alike L w.one w.other w.direct w.later s t os ps w.length w.same_length positive p q
       (same_trans g.viewed sort L (calls w.direct) (said read ms) (calls w.later) (same_sym g.viewed sort L (said read ms) (calls w.direct) first) all)
       (above L positive (said read ms) (calls w.direct) first agree) (above L positive (said read ms) (calls w.later) all agree)
+
+  -- two runs from the making
+  pub fresh_end_alike : (ms : List (Message P)) (s s' : State R g) (os os' : List Open) (t t' : State R g) (ps ps' : List Open) (q q' : Queue P) → Ran read sort era ms s s' os os' t t' ps ps' q q' → FreshEndAlike read sort era ms s s' os os' t t' ps ps' q
+  fresh_end_alike ms s s' os os' t t' ps ps' q q' ran u w L a b from from' none =
+      let d = ran.directly u [] [] none_called from in
+      let e = ran.through w [] [] [] (subst (Through [] []) (sym (nothing q none)) nothing_offered) none_called from' in
+      end_alike L ms s' t' os' ps' (record {
+        one = u;
+        other = w;
+        length = a;
+        same_length = b;
+        direct = d.0;
+        directly = d.1;
+        directly_reached = d.2;
+        out = e.0;
+        left = q';
+        queued = e.2;
+        emptied = ran.emptied;
+        later = e.1;
+        then = e.3;
+        then_reached = e.4;
+      })
+    where
+      nothing : (q : Queue P) → Emptied q → q ≡ record { finalization = None; messages = [] }
+      nothing q none = empty_parts q.finalization q.messages none.finalization none.messages
+        where
+          empty_parts : (f : Option (Message P)) (ns : List (Message P)) → f ≡ None → ns ≡ [] → queue_with f ns ≡ queue_with None []
+          empty_parts f ns e d = rw (e, d) refl

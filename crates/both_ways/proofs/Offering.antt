@@ -1,12 +1,13 @@
 -- Messages that are offered one after the other.
-use Rattle.std.proofs.Common.{◌≡◌, ℕ, suc, ◌+◌, ◌<◌, ◌≤◌, Bool, true, false, cond, List, [], ◌∷◌, ◌++◌, length, take, drop, get_or, Ok, Err, Result, MatchResult, append-nil, append_assoc, sym, refl, ap, ◌∙◌, subst, arith}
-use Rattle.std.proofs.lemmas.Bool.{cases_Bool}
+use Rattle.std.proofs.Common.{◌≡◌, ℕ, suc, ◌+◌, ◌-◌, ◌<◌, ◌≤◌, Bool, true, false, cond, eqb, Some, None, Option, List, [], ◌∷◌, ◌++◌, length, take, drop, get_or, Ok, Err, Result, MatchResult, append-nil, append_assoc, sym, refl, ap, ◌∙◌, subst, inl, inr, arith}
+use Rattle.std.proofs.lemmas.Bool.{cases_Bool, eqb-true}
 use Rattle.std.proofs.lemmas.Grind.{common_steps}
+use Rattle.std.proofs.lemmas.List.{drop_all}
 use Rattle.board.specs.declared.open.Open.{Open}
 use Rattle.both_ways.specs.declared.fault.Fault.{Fault}
 use Rattle.both_ways.specs.declared.fault.Fault.TheVariants.{Resolver as OfResolver, Queue as OfQueue}
-use Rattle.queue.proofs.Laws.{refused_same}
-use Rattle.queue.specs.Queues.{Queue, offered, finds_full, offer_answer, drained}
+use Rattle.queue.proofs.Laws.{Kept, refused_same}
+use Rattle.queue.specs.Queues.{Queue, offered, finds_full, offer_answer, drained, drained_from}
 use Rattle.queue.specs.declared.fault.Fault.{Fault as QueueFault}
 use Rattle.queue.specs.declared.fault.Fault.TheVariants.{Full}
 use Rattle.queue.specs.declared.message.Message.{Message}
@@ -18,6 +19,7 @@ use Rattle.views.specs.declared.Viewable as viewable
 use Rattle.history.specs.Events.{Event, Use}
 use Rattle.history.specs.Uses.{Reached}
 use Rattle.both_ways.specs.Calling.{AllCalled, StopsAt}
+use Rattle.both_ways.specs.Ends.{Emptied}
 use Rattle.both_ways.specs.Queueing.{AllThrough, FullAt, RefusedAt, Stops}
 use Rattle.both_ways.specs.Runs.{CalledInOrder, Through, offered_next, emptied}
 
@@ -90,3 +92,34 @@ module _ {R P : Type 0} {g : viewable.Ghosts R} (read : P → Result R Misread) 
     left = stop.left;
     stops = stop.stops;
   }
+
+  -- where all were offered, and the last that came out was refused
+  pub refused_last : (ms : List (Message P)) (n : ℕ) (q q' q'' : Queue P) (s s' s'' : State R g) (os os' os'' : List Open) (f : Refused) → AllThrough read sort era ms q q' s s' os os' → q'' ≡ (drained n q').1 → StopsAt read sort era (drained n q').0 f s' s'' os' os'' → RefusedAt read sort era ms f q q'' s s'' os os''
+  refused_last ms n q q' q'' s s' s'' os os' os'' f a left stops = record {
+    first = ms;
+    others = [];
+    are = sym (append-nil ms);
+    queue = q';
+    state = s';
+    asks = os';
+    offered = a;
+    places = n;
+    left = left;
+    stops = stops;
+  }
+
+  -- where all were offered, and all that waited came out
+  pub offered_and_emptied : (ms : List (Message P)) (n : ℕ) (q q' q'' : Queue P) (s s' s'' : State R g) (os os' os'' : List Open) → AllThrough read sort era ms q q' s s' os os' → q'' ≡ (drained n q').1 → AllCalled read sort era (drained n q').0 s' s'' os' os'' → AllThrough read sort era ms q q'' s s'' os os''
+  offered_and_emptied ms n q q' q'' s s' s'' os os' os'' a left all = rw left (subst (λ xs. AllThrough read sort era xs q (drained n q').1 s s'' os os'') (append-nil ms) (all_offered ms [] q q' (drained n q').1 s s' s'' os os' os'' a (just_emptied n q' s' s'' os' os'' all)))
+
+-- a list as long as all that may wait takes all
+emptied_from : {P : Type 0} (n : ℕ) (f : Option (Message P)) (ms : List (Message P)) → length ms < n → Emptied (drained_from n f ms).1
+emptied_from n None ms short = record { finalization = refl; messages = drop_all n ms (omega arith) }
+emptied_from n (Some f) ms short = elim (cases_Bool (eqb n 0)) [
+  | inl zero' ↦ absurd (omega (arith, eqb-true n 0 zero'))
+  | inr more ↦ rw more (record { finalization = refl; messages = drop_all (n - 1) ms (omega arith) })
+]
+
+pub all_emptied : {P : Type 0} (n : ℕ) (q q' : Queue P) → Kept q → 64 < n → q' ≡ (drained n q).1 → Emptied q'
+unfolding drained
+all_emptied n q q' k long is = rw is (emptied_from n q.finalization q.messages (omega (arith, k.few)))
