@@ -1,0 +1,4 @@
+pub mod Holding
+pub mod Records
+pub mod Run
+pub mod Table
