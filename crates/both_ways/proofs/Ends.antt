@@ -144,6 +144,7 @@ module _ {R P : Type 0} (g : viewable.Ghosts R) (read : P → Result R Misread) 
     where
       behind : (v : ℕ) → lookup (place v Background) ps ≡ lookup (place v Background) os
       behind v = let x = rw a at (p.background_asks_are_needed_views v) in let y = rw b at (q.background_asks_are_needed_views v) in y ∙ rw (same.marked, needed_alike g.viewed sort L positive (calls h) (calls i) same v) (sym x)
+
       ahead : (k : Ask) (v : ℕ) → lookup (place v (Ancestry k)) ps ≡ lookup (place v (Ancestry k)) os
       ahead k v =
           let x = rw a at (p.ancestry_asks_are_unsettled_requests k v) in

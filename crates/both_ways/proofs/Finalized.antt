@@ -41,7 +41,7 @@ module _ {R : Type 0} (viewed : R → ℕ) (sort : R → Kind) (L : ℕ) where
       let all : (p : Call R → Bool) → some p (waiting ++ called) ≡ (some p waiting || some p called) = λ p. some_append p waiting called in
       let all' : (p : Call R → Bool) → some p (left ++ evidence x ∷ called) ≡ (some p left || (p (evidence x) || some p called)) = λ p. some_append p left (evidence x ∷ called) in
       let top : highest (finalizes viewed sort) (left ++ evidence x ∷ called) ≡ finalized viewed sort (evidence x ∷ (waiting ++ called)) =
-          let a = highest_append (finalizes viewed sort) waiting called in let b = highest_append (finalizes viewed sort) left (evidence x ∷ called) in let c = fewer.top in grind (arith, common_steps) in
+      let a = highest_append (finalizes viewed sort) waiting called in let b = highest_append (finalizes viewed sort) left (evidence x ∷ called) in let c = fewer.top in grind (arith, common_steps) in
       let past : (v : ℕ) → finalized viewed sort (evidence x ∷ (waiting ++ called)) < v → viewed x < v = λ v p. grind (arith, common_steps) in
       let open_past : (k : Ask) (v : ℕ) → settles viewed sort L k v (evidence x ∷ (waiting ++ called)) ≡ false → viewed x < v = λ k v u. past v (unsettled_past k v (evidence x ∷ (waiting ++ called)) u) in
       record {

@@ -72,14 +72,17 @@ module _ {R P : Type 0} {g : viewable.Ghosts R} (read : P → Result R Misread) 
 
   -- where the first of them were offered and a later one stops
   pub stops_later : (ms ns all : List (Message P)) (q q' q'' : Queue P) (s s' s'' : State R g) (os os' os'' : List Open) (more : List (Message P)) (f : Fault) → all ≡ ms ++ (ns ++ more) → AllThrough read sort era ms q q' s s' os os' → Stops read sort era ns f q' q'' s' s'' os' os'' → Stops read sort era all f q q'' s s'' os os''
-  stops_later ms ns all q q' q'' s s' s'' os os' os'' more (OfQueue f) are a (is, stop) = (is, record {
-    first = ms ++ stop.first;
-    refused = stop.refused;
-    others = stop.others ++ more;
-    are = are ∙ ap (λ xs. ms ++ (xs ++ more)) stop.are ∙ ap (λ xs. ms ++ xs) (append_assoc stop.first (stop.refused ∷ stop.others) more) ∙ sym (append_assoc ms stop.first (stop.refused ∷ (stop.others ++ more)));
-    offered = all_offered ms stop.first q q' q'' s s' s'' os os' os'' a stop.offered;
-    full = stop.full;
-  })
+  stops_later ms ns all q q' q'' s s' s'' os os' os'' more (OfQueue f) are a (is, stop) = (
+    is,
+    record {
+      first = ms ++ stop.first;
+      refused = stop.refused;
+      others = stop.others ++ more;
+      are = are ∙ ap (λ xs. ms ++ (xs ++ more)) stop.are ∙ ap (λ xs. ms ++ xs) (append_assoc stop.first (stop.refused ∷ stop.others) more) ∙ sym (append_assoc ms stop.first (stop.refused ∷ (stop.others ++ more)));
+      offered = all_offered ms stop.first q q' q'' s s' s'' os os' os'' a stop.offered;
+      full = stop.full;
+    },
+  )
   stops_later ms ns all q q' q'' s s' s'' os os' os'' more (OfResolver f) are a stop = record {
     first = ms ++ stop.first;
     others = stop.others ++ more;

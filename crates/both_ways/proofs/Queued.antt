@@ -119,7 +119,7 @@ module _ {R P : Type 0} (read : P → Result R Misread) (viewed : R → ℕ) (so
       let rest = (drained n q).1 in
       let parts = inside_drained n q in
       let says : said read (inside q) ++ said read cs ≡ said read (inside rest) ++ said read (cs ++ out) =
-          ap (λ xs. said read xs ++ said read cs) parts ∙ ap (λ xs. xs ++ said read cs) (said_append read out (inside rest)) ∙ append_assoc (said read (inside rest)) (said read out) (said read cs) ∙ ap (λ xs. said read (inside rest) ++ xs) (sym (said_append read cs out)) in
+      ap (λ xs. said read xs ++ said read cs) parts ∙ ap (λ xs. xs ++ said read cs) (said_append read out (inside rest)) ∙ append_assoc (said read (inside rest)) (said read out) (said read cs) ∙ ap (λ xs. said read (inside rest) ++ xs) (sym (said_append read cs out)) in
       let fewer : (p : Call R → Bool) → some p (said read (inside rest)) ≡ true → some p (said read (inside q)) ≡ true = λ p t. ap (λ xs. some p (said read xs)) parts ∙ ap (some p) (said_append read out (inside rest)) ∙ some_append p (said read (inside rest)) (said read out) ∙ or_left _ _ t in
       record {
         same = subst (Same viewed sort L (said read ms)) says i.same;
@@ -242,14 +242,14 @@ module _ {R P : Type 0} (read : P → Result R Misread) (viewed : R → ℕ) (so
       let free = fair.apart w (ap (some _) more ∙ some_append _ (said_by read m) (said read ms) ∙ or_right _ _ (i.of_evidence _ h.own)) in
       let low = leb-true (view_of m) w old in
       dropped m ms cs q i (same_sym viewed sort L _ _ (low_adds_nothing read viewed sort L positive w (said read (inside q) ++ said read cs) (h.top (said read cs)) m s mark low
-        (λ x is null low. short_of w (said read (ms ++ m ∷ [])) x (said_first m ms (by_evidence (λ z. is_nullification (sort z) && eqb (viewed z) (viewed x))) (evidence x) is (and_from _ _ null (eq-eqb (viewed x) (viewed x) refl))) free low)))
+      (λ x is null low. short_of w (said read (ms ++ m ∷ [])) x (said_first m ms (by_evidence (λ z. is_nullification (sort z) && eqb (viewed z) (viewed x))) (evidence x) is (and_from _ _ null (eq-eqb (viewed x) (viewed x) refl))) free low)))
 
   says_parts : (held ahead behind cs : List (Message P)) (n : Message P) → said read (held ++ (ahead ++ n ∷ behind)) ++ said read cs ≡ said read behind ++ (said_by read n ++ (said read ahead ++ (said read held ++ said read cs)))
   unfolding said
   says_parts held ahead behind cs n = rw (said_append read held (ahead ++ n ∷ behind), said_append read ahead (n ∷ behind)) (
-    append_assoc ((said read behind ++ said_by read n) ++ said read ahead) (said read held) (said read cs)
-    ∙ append_assoc (said read behind ++ said_by read n) (said read ahead) (said read held ++ said read cs)
-    ∙ append_assoc (said read behind) (said_by read n) (said read ahead ++ (said read held ++ said read cs)))
+      append_assoc ((said read behind ++ said_by read n) ++ said read ahead) (said read held) (said read cs)
+      ∙ append_assoc (said read behind ++ said_by read n) (said read ahead) (said read held ++ said read cs)
+      ∙ append_assoc (said read behind) (said_by read n) (said read ahead ++ (said read held ++ said read cs)))
 
   some_parts : (p : Call R → Bool) (held ahead behind : List (Message P)) (n : Message P) → some p (said read (held ++ (ahead ++ n ∷ behind))) ≡ (some p (said read behind) || (some p (said_by read n) || (some p (said read ahead) || some p (said read held))))
   unfolding said
@@ -284,8 +284,8 @@ module _ {R P : Type 0} (read : P → Result R Misread) (viewed : R → ℕ) (so
       let here : said read (inside q) ++ said read cs ≡ said read behind ++ (said_by read o ++ rest) = ap (λ xs. said read xs ++ said read cs) whole ∙ says o in
       let more = said_more ms m in
       let agree : (b c : Bool) (x y : R) → said_by read m ≡ verdict b x ∷ [] → said_by read o ≡ verdict c y ∷ [] → viewed y ≡ viewed x → c ≡ b = λ b c x y is_m is_o view. one_verdict b c x y (said read (ms ++ m ∷ [])) fair view
-          (λ p t. said_first m ms (by_verdict p) (verdict b x) is_m t)
-          (λ p t. ap (some _) more ∙ some_append _ (said_by read m) (said read ms) ∙ or_right _ _ (i.of_verdicts p (ap (λ xs. some (by_verdict p) (said read xs)) whole ∙ some_parts (by_verdict p) (held_list f) ahead behind o ∙ or_right _ _ (or_left _ _ (says_one (by_verdict p) o (verdict c y) is_o t))))) in
+      (λ p t. said_first m ms (by_verdict p) (verdict b x) is_m t)
+      (λ p t. ap (some _) more ∙ some_append _ (said_by read m) (said read ms) ∙ or_right _ _ (i.of_verdicts p (ap (λ xs. some (by_verdict p) (said read xs)) whole ∙ some_parts (by_verdict p) (held_list f) ahead behind o ∙ or_right _ _ (or_left _ _ (says_one (by_verdict p) o (verdict c y) is_o t))))) in
       elim (cases_Bool (asks_all m)) [
         | inr keeps ↦ rw keeps (dropped m ms cs q i (rw here (same_sym viewed sort L _ _ (repeat_adds_nothing read viewed sort L positive m o s sounds.1.0 at.1 keeps agree (said read behind) rest))))
         | inl widens ↦ rw (widens, found, parted_set ns j (widened o) at.0) (

@@ -56,9 +56,9 @@ module _ {R P : Type 0} (read : P → Result R Misread) (viewed : R → ℕ) (so
   -- what is finalized says nothing more
   pub low_adds_nothing : (w : ℕ) (h : List (Call R)) → w ≤ finalized viewed sort h → (m : Message P) → Sound read viewed sort m → is_marker m ≡ false → view_of m ≤ w → ((x : R) → said_by read m ≡ evidence x ∷ [] → is_nullification (sort x) ≡ true → viewed x ≤ w → end L (viewed x) ≤ w) → Same viewed sort L h (said_by read m ++ h)
   low_adds_nothing w h top (Updated k v p) s mark low ends = rw s.1 (
-    let x = s.0 in
-    let e = ends x (rw s.1 refl) in
-    low_evidence viewed sort L positive x h (omega (arith, s.3, low, top)) (λ null. omega (arith, top, e null (omega (arith, s.3, low)))))
+      let x = s.0 in
+      let e = ends x (rw s.1 refl) in
+      low_evidence viewed sort L positive x h (omega (arith, s.3, low, top)) (λ null. omega (arith, top, e null (omega (arith, s.3, low)))))
   low_adds_nothing w h top (Certified k v b p) s mark low ends = rw s.1 (low_verdict viewed sort L positive b s.0 h (omega (arith, s.3, low, top)))
   low_adds_nothing w h top (Resolve a v k t) s mark low ends = elim (cases_Bool (ltb v a)) [
     | inl below ↦ rw below (settled_request viewed sort L positive v k t h (settled_low k))
@@ -72,8 +72,8 @@ module _ {R P : Type 0} (read : P → Result R Misread) (viewed : R → ℕ) (so
 
   -- what says the same
   pub repeat_adds_nothing : (m o : Message P) → Sound read viewed sort m → Sound read viewed sort o → repeats m o ≡ true → asks_all m ≡ false
-    → ((b c : Bool) (x y : R) → said_by read m ≡ verdict b x ∷ [] → said_by read o ≡ verdict c y ∷ [] → viewed y ≡ viewed x → c ≡ b)
-    → (after before : List (Call R)) → Same viewed sort L (after ++ (said_by read o ++ before)) (said_by read m ++ (after ++ (said_by read o ++ before)))
+      → ((b c : Bool) (x y : R) → said_by read m ≡ verdict b x ∷ [] → said_by read o ≡ verdict c y ∷ [] → viewed y ≡ viewed x → c ≡ b)
+      → (after before : List (Call R)) → Same viewed sort L (after ++ (said_by read o ++ before)) (said_by read m ++ (after ++ (said_by read o ++ before)))
   repeat_adds_nothing (Updated k v p) (Updated l w q) s t same asks agree after before =
       let e = and_parts (same_kind k l) (eqb v w) same in
       let kinds = kind_alike k l e.0 in

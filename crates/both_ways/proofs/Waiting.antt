@@ -42,40 +42,40 @@ module _ {R P : Type 0} (read : P → Result R Misread) where
       low_says : (w : ℕ) (m : Message P) → Sound m → is_marker m ≡ false → view_of m ≤ w → ((x : R) → said_by read m ≡ evidence x ∷ [] → is_nullification (sort x) ≡ true → viewed x ≤ w → end L (viewed x) ≤ w) → Fewer viewed sort L w (said_by read m) []
       unfolding some highest first_seat
       low_says w (Updated k v p) m mark low ends = rw m.1 (
-        let x = m.0 in
-        let view : viewed x ≤ w = omega (arith, m.3, low) in
-        let e = ends x (rw m.1 refl) in
-        record {
-          top = grind (arith, common_steps);
-          floor = grind (arith, common_steps);
-          current = grind (arith, common_steps);
-          marked = refl;
-          covered = λ u past. let c = (to_the_end L positive (viewed x) u).0 in grind (arith, common_steps);
-          notarized = λ u past. grind (arith, common_steps);
-          judged = λ u past. refl;
-          passed = λ u past. refl;
-          failed = λ u past. refl;
-          requested = λ j u past. refl;
-          open_to_all = λ j u past. refl;
-          first_seat = λ j u past. refl;
-        })
+          let x = m.0 in
+          let view : viewed x ≤ w = omega (arith, m.3, low) in
+          let e = ends x (rw m.1 refl) in
+          record {
+            top = grind (arith, common_steps);
+            floor = grind (arith, common_steps);
+            current = grind (arith, common_steps);
+            marked = refl;
+            covered = λ u past. let c = (to_the_end L positive (viewed x) u).0 in grind (arith, common_steps);
+            notarized = λ u past. grind (arith, common_steps);
+            judged = λ u past. refl;
+            passed = λ u past. refl;
+            failed = λ u past. refl;
+            requested = λ j u past. refl;
+            open_to_all = λ j u past. refl;
+            first_seat = λ j u past. refl;
+          })
       low_says w (Certified k v b p) m mark low ends = rw m.1 (
-        let x = m.0 in
-        let view : viewed x ≤ w = omega (arith, m.3, low) in
-        record {
-          top = grind (arith, common_steps);
-          floor = grind (arith, common_steps);
-          current = grind (arith, common_steps);
-          marked = refl;
-          covered = λ u past. refl;
-          notarized = λ u past. refl;
-          judged = λ u past. grind (arith, common_steps);
-          passed = λ u past. grind (arith, common_steps);
-          failed = λ u past. grind (arith, common_steps);
-          requested = λ j u past. refl;
-          open_to_all = λ j u past. refl;
-          first_seat = λ j u past. refl;
-        })
+          let x = m.0 in
+          let view : viewed x ≤ w = omega (arith, m.3, low) in
+          record {
+            top = grind (arith, common_steps);
+            floor = grind (arith, common_steps);
+            current = grind (arith, common_steps);
+            marked = refl;
+            covered = λ u past. refl;
+            notarized = λ u past. refl;
+            judged = λ u past. grind (arith, common_steps);
+            passed = λ u past. grind (arith, common_steps);
+            failed = λ u past. grind (arith, common_steps);
+            requested = λ j u past. refl;
+            open_to_all = λ j u past. refl;
+            first_seat = λ j u past. refl;
+          })
       low_says w (Resolve a v k t) m mark low ends =
           record {
             top = grind (arith, common_steps);

@@ -1,5 +1,5 @@
 -- The call of a message.
-use Rattle.std.specs.Prelude.{◌≡◌, ℕ, Bool, List, [], ◌∷◌, ◌++◌, Ok, Err, Result}
+use Rattle.std.specs.Prelude.{◌≡◌, ℕ, Bool, true, List, [], ◌∷◌, ◌++◌, Ok, Err, Result}
 use Rattle.board.specs.declared.open.Open.{Open}
 use Rattle.effects.specs.Lists.{Listed}
 use Rattle.effects.specs.declared.listed.Effects.{Effects}
@@ -19,6 +19,13 @@ use Rattle.both_ways.specs.Runs.{CalledInOrder}
 abbrev pub done : Result Bool Fault → Result (Unit {0}) Fault
 done (Ok b) = Ok tt
 done (Err f) = Err f
+
+-- what an accepted call answers: of a request whether it asks, of all others yes
+abbrev pub Says : {P : Type 0} → Message P → Bool → Type 0
+Says (Updated k v p) b = b ≡ true
+Says (Certified k v d p) b = b ≡ true
+Says (Resolve w v k t) b = Unit {0}
+Says Replayed b = b ≡ true
 
 module _ {R P : Type 0} (read : P → Result R Misread) where
   -- the call of a message with its answer: of a request whether it asks, of all others that they were accepted

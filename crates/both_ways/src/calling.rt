@@ -1,5 +1,5 @@
 ghost use Rattle.std.specs.Prelude.{◌≡◌, Bool, MatchResult};
-ghost use Rattle.both_ways.specs.Calling.{event_of, Lists, AllCalled, StopsAt};
+ghost use Rattle.both_ways.specs.Calling.{event_of, Says, Lists, AllCalled, StopsAt};
 ghost use Rattle.effects.specs.Lists.{places};
 ghost use Rattle.history.specs.Uses.{Step, use_of};
 
@@ -19,12 +19,14 @@ pub fn call<R: Record, B: Board>(
 ) -> Result<bool, Fault>
     ensures step { (approved : R → Bool) → Step R.Record.sort R.Record.era (use_of resolver.old.calls.state approved) (event_of R.Record.parsed message.now (places effects.old) result) resolver.old.calls.state resolver.new.calls.state (B.asks board.old) (B.asks board.new) }
     ensures places { places effects.new ≡ places effects.old }
-    ensures effects { MatchResult result (λ _. Lists R.Record.parsed R.Record.sort message.now resolver.old.calls.state effects.old effects.new) (λ _. effects.new ≡ effects.old) }
+    ensures effects { MatchResult result (λ b. Says message.now b × Lists R.Record.parsed R.Record.sort message.now resolver.old.calls.state effects.old effects.new) (λ _. effects.new ≡ effects.old) }
 {
     match message {
         Message::Updated { payload, .. } => resolver.updated(board, payload, effects)?,
         Message::Certified {
-            success, payload, ..
+            success,
+            payload,
+            ..
         } => resolver.certified(board, payload, *success, effects)?,
         Message::Resolve {
             proposal,

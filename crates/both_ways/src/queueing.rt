@@ -65,7 +65,14 @@ pub fn offer_all<R: Record, B: Board>(
 {
     for i in 0..messages.len() {
         let places = cuts.get(i).copied().unwrap_or(0).min(list.len());
-        offer_one(resolver, board, queue, messages[i], &mut list[..places], effects)?;
+        offer_one(
+            resolver,
+            board,
+            queue,
+            messages[i],
+            &mut list[..places],
+            effects,
+        )?;
     }
     Ok(())
 }

@@ -26,10 +26,9 @@ pub loop-message-preserved : goal.loop-message-preserved
 loop-message-preserved g c =
     let ms = c.args.messages.now in
     let i = c.loop-message.message-index in
-    let d : Message (List ℕ) = Updated Notarization 0 [] in
-    (
+    let d : Message (List ℕ) = Updated Notarization 0 [] in (
       subst (λ xs. AllCalled g.R.Record.parsed g.R.Record.sort g.R.Record.era xs c.args.resolver.now.calls.state c.call.new.resolver.calls.state (g.B.Board.asks c.args.board.now) (g.B.Board.asks c.call.new.board)) (sym (take_more ms i d c.loop-message-test.true))
-        (one_more_called g.R.Record.parsed g.R.Record.sort g.R.Record.era _ (get_or ms i d) _ _ _ _ _ _ _ c.loop-message.invariant.0 _ c.in_ok-call.ensures.step),
+          (one_more_called g.R.Record.parsed g.R.Record.sort g.R.Record.era _ (get_or ms i d) _ _ _ _ _ _ _ c.loop-message.invariant.0 _ c.in_ok-call.ensures.step),
       c.call.ensures.places ∙ c.loop-message.invariant.1,
     )
 
