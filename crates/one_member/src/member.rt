@@ -6,6 +6,7 @@ ghost use Rattle.state.specs.States.{held, term, epoch_of, fits, enough};
 ghost use Rattle.terms.specs.Terms.{views as views_of};
 
 use crate::Admitted;
+use both_ways::{Begun, begin};
 use effects::{Effect, Effects};
 use history::Resolver;
 use queue::{Lent, Pending};
@@ -45,12 +46,14 @@ impl<'a, B> Member<'a, B> {
         ensures list { result.effects.list.now ≡ list.old }
         ensures queue { queue_of result.queue ≡ record { finalization = None; messages = [] } }
     {
+        let Begun { resolver, queue } =
+            begin(admitted.term_length, admitted.epoch, memory, lent);
         Member {
-            resolver: Resolver::new(admitted.term_length, admitted.epoch, memory),
+            resolver,
             board,
             verifier: admitted.verifier,
             effects: Effects::new(list),
-            queue: Pending::new(lent),
+            queue,
             seats: admitted.seats,
         }
     }
