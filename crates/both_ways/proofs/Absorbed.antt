@@ -1,16 +1,14 @@
 -- Calls that add nothing to others.
-use Rattle.std.proofs.Common.{◌≡◌, ℕ, ◌+◌, ◌<◌, ◌≤◌, max, Bool, true, false, cond, not, ◌&&◌, ◌||◌, ◌⊎◌, ltb, leb, eqb, List, [], ◌∷◌, ◌++◌, is_some, is_none, Some, None, Option, sym, refl, ap, ◌∙◌, subst, inl, inr, arith}
-use Rattle.std.proofs.lemmas.Bool.{true≢false, both_ways, cases_Bool, cases_eq, cases_lt, or_cases, and_parts, eqb-true, eq-eqb, ne_eqb}
+use Rattle.std.proofs.Common.{◌≡◌, ℕ, ◌<◌, ◌≤◌, max, Bool, true, false, cond, not, ◌&&◌, ◌||◌, ◌⊎◌, eqb, List, [], ◌∷◌, ◌++◌, is_none, None, Option, refl, subst, inl, inr, arith}
+use Rattle.std.proofs.lemmas.Bool.{both_ways, cases_Bool, and_parts, eqb-true}
 use Rattle.std.proofs.lemmas.Grind.{common_steps}
 use Rattle.board.specs.Asks.{same_kind}
 use Rattle.effects.specs.declared.effect.Kind.{Kind as Ask}
-use Rattle.effects.specs.declared.effect.Kind.TheVariants as ask
 use Rattle.record.specs.declared.kind.Kind.{Kind}
-use Rattle.record.specs.declared.kind.Kind.TheVariants.{Notarization, Nullification, Finalization}
 use Rattle.state.specs.Answers.{is_notarization}
-use Rattle.terms.proofs.Laws.{to_the_end, own_end}
+use Rattle.terms.proofs.Laws.{to_the_end}
 use Rattle.terms.specs.Terms.{end, covering}
-use Rattle.history.specs.Calls.{Call, evidence, verdict, marker, request, is_nullification, is_finalization, some, highest, by_evidence, by_verdict, is_marker, is_request, is_open_request, marked, requested, first_seat, target, finalizes, raises, sees, finalized, floor, current, notarized, judged, passed, failed, covered, settles}
+use Rattle.history.specs.Calls.{Call, evidence, verdict, marker, request, is_nullification, some, highest, by_evidence, by_verdict, is_marker, is_request, is_open_request, requested, first_seat, finalizes, raises, sees, finalized, current, settles}
 use Rattle.history.proofs.Counted.{finalized_low}
 use Rattle.history.proofs.Uses.{same_ask}
 use Rattle.both_ways.proofs.Same.{Same}

@@ -1,35 +1,18 @@
 -- What was called says what the messages say.
-use Rattle.std.proofs.Common.{◌≡◌, ℕ, ◌+◌, ◌*◌, ◌/◌, ◌%◌, ◌<◌, ◌≤◌, Bool, true, false, cond, not, ◌&&◌, ◌||◌, ltb, leb, eqb, List, [], ◌∷◌, ◌++◌, is_some, is_none, Some, None, Ok, Err, Result, Option, IfOk, append-nil, sym, refl, ap, ◌∙◌, subst, inl, inr, arith}
-use Rattle.std.proofs.lemmas.Bool.{true≢false, both_ways, cases_Bool, cases_eq, cases_lt, and_parts}
+use Rattle.std.proofs.Common.{◌≡◌, ℕ, ◌<◌, Bool, true, false, cond, ltb, List, [], ◌∷◌, ◌++◌, Ok, Err, Result, Option, IfOk, sym, refl, ◌∙◌, subst, inl, inr, arith}
+use Rattle.std.proofs.lemmas.Bool.{cases_Bool}
 use Rattle.std.proofs.lemmas.Grind.{common_steps}
-use Rattle.board.proofs.Sorting.{same_found}
-use Rattle.board.specs.Asks.{place}
-use Rattle.board.specs.Sorting.{lookup}
-use Rattle.board.specs.declared.ask.Ask.TheVariants.{Background, Ancestry}
-use Rattle.board.specs.declared.open.Open.{Open}
 use Rattle.effects.specs.declared.effect.Kind.{Kind as Ask}
-use Rattle.effects.specs.declared.effect.Kind.TheVariants as ask
-use Rattle.queue.specs.Queues.{Queue}
 use Rattle.queue.specs.declared.message.Message.{Message}
 use Rattle.queue.specs.declared.message.Message.TheVariants.{Updated, Certified, Resolve, Replayed}
 use Rattle.record.specs.declared.fault.Fault.{Fault as Misread}
 use Rattle.record.specs.declared.kind.Kind.{Kind}
 use Rattle.resolver.specs.Calls.{answer_of}
-use Rattle.resolver.specs.declared.fault.Fault.{Fault}
-use Rattle.state.specs.Answers.{Answer, refused_if, if_read, too_few}
-use Rattle.state.specs.declared.fault.Fault.{Fault as StateFault}
+use Rattle.state.specs.Answers.{Answer, refused_if, if_read}
 use Rattle.state.specs.declared.fault.Fault.TheVariants.{TooFewPlaces}
-use Rattle.state.specs.Serving.{served}
-use Rattle.state.specs.Settled.{settled}
-use Rattle.state.specs.States.{held}
-use Rattle.state.specs.declared.state.State.{State}
-use Rattle.views.specs.declared.Viewable as viewable
-use Rattle.history.specs.Calls.{Call, evidence, verdict, marker, request, some, highest, finalized, floor, marked, requested, target, passed, failed, settles, is_gap, needed, serves, last_finalization, last_passed, highest_cover}
-use Rattle.history.specs.Events.{Event, updated, certified, replayed, resolved, calls, accepted, Use, Answers, AllAnswer}
-use Rattle.history.specs.Promises.{Promises, if_asked, if_needed}
+use Rattle.history.specs.Calls.{Call, marker, request, settles}
+use Rattle.history.specs.Events.{Event, calls, accepted, Use, Answers, AllAnswer}
 use Rattle.history.specs.Rules.{request_rule}
-use Rattle.history.specs.Uses.{Reached, made, then}
-use Rattle.history.proofs.Uses.{law}
 use Rattle.both_ways.specs.Runs.{Called, CalledInOrder, none_called, called_next, said_by, said, Carries, AllCarry}
 use Rattle.both_ways.proofs.Absorbed.{settled_request}
 use Rattle.both_ways.proofs.Queued.{said_more, same_all, sound_append}

@@ -1,6 +1,6 @@
 -- Calls that say the same end alike.
-use Rattle.std.proofs.Common.{◌≡◌, ℕ, ◌+◌, ◌*◌, ◌/◌, ◌%◌, ◌<◌, ◌≤◌, max, Bool, true, false, cond, not, ◌&&◌, ◌||◌, ◌⊎◌, ltb, leb, eqb, List, [], ◌∷◌, ◌++◌, is_some, is_none, Some, None, Ok, Err, Result, Option, append-nil, sym, refl, ap, ◌∙◌, subst, inl, inr, arith}
-use Rattle.std.proofs.lemmas.Bool.{true≢false, both_ways, cases_Bool, cases_eq, cases_lt, and_parts, lt-ltb, le-ltb, le-leb}
+use Rattle.std.proofs.Common.{◌≡◌, ℕ, ◌+◌, ◌*◌, ◌/◌, ◌%◌, ◌<◌, Bool, true, false, not, ◌&&◌, ◌||◌, ◌⊎◌, ltb, leb, List, [], ◌∷◌, ◌++◌, is_some, None, Result, Option, sym, refl, ap, ◌∙◌, subst, inl, inr, arith}
+use Rattle.std.proofs.lemmas.Bool.{cases_Bool, cases_eq, cases_lt, lt-ltb, le-ltb, le-leb}
 use Rattle.std.proofs.lemmas.Grind.{common_steps}
 use Rattle.board.proofs.Sorting.{same_found}
 use Rattle.board.specs.Asks.{place}
@@ -13,20 +13,16 @@ use Rattle.queue.specs.Queues.{Queue}
 use Rattle.queue.specs.declared.message.Message.{Message}
 use Rattle.record.specs.declared.fault.Fault.{Fault as Misread}
 use Rattle.record.specs.declared.kind.Kind.{Kind}
-use Rattle.state.specs.Serving.{served}
-use Rattle.state.specs.Settled.{settled}
-use Rattle.state.specs.States.{held}
 use Rattle.state.specs.declared.state.State.{State}
 use Rattle.terms.proofs.Laws.{end_0}
 use Rattle.terms.specs.Terms.{end}
 use Rattle.views.specs.declared.Viewable as viewable
-use Rattle.history.specs.Calls.{Call, evidence, verdict, marker, request, some, highest, finalized, floor, marked, requested, target, passed, failed, covered, settles, is_gap, needed, serves, last_finalization, last_passed, highest_cover}
+use Rattle.history.specs.Calls.{Call, evidence, verdict, marker, request, some, highest, finalized, floor, requested, target, passed, failed, covered, settles, needed, serves, last_finalization, last_passed, highest_cover}
 use Rattle.history.specs.Events.{Event, calls, Use}
-use Rattle.history.specs.Promises.{Promises, if_asked, if_needed}
-use Rattle.history.specs.Uses.{Reached}
+use Rattle.history.specs.Promises.{Promises, if_asked}
 use Rattle.history.proofs.Counted.{finalized_low}
 use Rattle.history.proofs.Uses.{law, at_each}
-use Rattle.both_ways.specs.Ends.{Alike, Emptied, BothWays, EndAlike}
+use Rattle.both_ways.specs.Ends.{Alike, Emptied, EndAlike}
 use Rattle.both_ways.specs.Running.{Ran, FreshEndAlike}
 use Rattle.both_ways.specs.Runs.{none_called, Through, nothing_offered, said, VerdictsAgree}
 use Rattle.both_ways.proofs.Called.{all_called, all_sound}

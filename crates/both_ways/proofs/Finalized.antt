@@ -1,13 +1,13 @@
 -- A finalization that takes its place before the calls that wait, of which some are dropped.
-use Rattle.std.proofs.Common.{◌≡◌, ℕ, ◌+◌, ◌<◌, ◌≤◌, max, Bool, true, false, cond, not, ◌&&◌, ◌||◌, ◌⊎◌, ltb, leb, eqb, List, [], ◌∷◌, ◌++◌, is_some, is_none, Some, None, Option, sym, refl, ap, ◌∙◌, subst, inl, inr, arith}
+use Rattle.std.proofs.Common.{◌≡◌, ℕ, ◌<◌, ◌≤◌, max, Bool, false, not, ◌&&◌, ◌||◌, eqb, List, ◌∷◌, ◌++◌, ap, arith}
 use Rattle.std.proofs.lemmas.Grind.{common_steps}
 use Rattle.effects.specs.declared.effect.Kind.{Kind as Ask}
 use Rattle.effects.specs.declared.effect.Kind.TheVariants as ask
 use Rattle.record.specs.declared.kind.Kind.{Kind}
-use Rattle.record.specs.declared.kind.Kind.TheVariants.{Notarization, Nullification, Finalization}
+use Rattle.record.specs.declared.kind.Kind.TheVariants.{Finalization}
 use Rattle.state.specs.Answers.{is_notarization}
-use Rattle.terms.specs.Terms.{end, covering}
-use Rattle.history.specs.Calls.{Call, evidence, verdict, marker, request, is_nullification, is_finalization, some, highest, by_evidence, by_verdict, is_marker, is_request, is_open_request, marked, requested, first_seat, target, finalizes, raises, sees, finalized, floor, current, notarized, judged, passed, failed, covered, settles}
+use Rattle.terms.specs.Terms.{covering}
+use Rattle.history.specs.Calls.{Call, evidence, is_nullification, is_finalization, some, highest, by_evidence, by_verdict, is_marker, is_request, is_open_request, marked, requested, first_seat, finalizes, raises, sees, finalized, notarized, judged, passed, failed, covered, settles}
 use Rattle.both_ways.proofs.Absorbed.{some_append, highest_append, first_seat_append, no_seat}
 use Rattle.both_ways.proofs.Same.{Same}
 

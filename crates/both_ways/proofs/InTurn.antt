@@ -1,6 +1,5 @@
 -- Messages that are called one after the other.
-use Rattle.std.proofs.Common.{◌≡◌, ℕ, suc, ◌+◌, ◌<◌, ◌≤◌, Bool, true, false, List, [], ◌∷◌, ◌++◌, length, take, drop, get_or, Ok, Err, Result, append-nil, append_assoc, sym, refl, ap, ◌∙◌, subst, arith}
-use Rattle.std.proofs.lemmas.List.{take_more}
+use Rattle.std.proofs.Common.{◌≡◌, ℕ, Bool, List, [], ◌∷◌, ◌++◌, Ok, Err, Result, append-nil, append_assoc, sym, refl, subst}
 use Rattle.board.specs.declared.open.Open.{Open}
 use Rattle.record.specs.declared.fault.Fault.{Fault as Misread}
 use Rattle.record.specs.declared.kind.Kind.{Kind}
@@ -9,12 +8,10 @@ use Rattle.queue.specs.declared.message.Message.{Message}
 use Rattle.queue.specs.declared.message.Message.TheVariants.{Updated, Certified, Resolve, Replayed}
 use Rattle.state.specs.declared.state.State.{State}
 use Rattle.views.specs.declared.Viewable as viewable
-use Rattle.history.specs.Events.{Event, Use}
-use Rattle.history.specs.Uses.{Reached, Step, use_of}
+use Rattle.history.specs.Uses.{Step, use_of}
 use Rattle.history.proofs.Points.{next_point}
 use Rattle.both_ways.specs.Calling.{event_of, AllCalled, StopsAt}
 use Rattle.both_ways.specs.Runs.{Called, CalledInOrder, called_next}
-use Rattle.both_ways.proofs.Repeated.{parted}
 
 answered_called : {R P : Type 0} (read : P → Result R Misread) (m : Message P) (n : ℕ) (b : Bool) → Called read m (event_of read m n (Ok b))
 answered_called read (Updated k v p) n b = (n, refl)

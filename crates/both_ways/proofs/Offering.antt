@@ -1,5 +1,5 @@
 -- Messages that are offered one after the other.
-use Rattle.std.proofs.Common.{◌≡◌, ℕ, suc, ◌+◌, ◌-◌, ◌<◌, ◌≤◌, Bool, true, false, cond, eqb, Some, None, Option, List, [], ◌∷◌, ◌++◌, length, take, drop, get_or, Ok, Err, Result, MatchResult, append-nil, append_assoc, sym, refl, ap, ◌∙◌, subst, inl, inr, arith}
+use Rattle.std.proofs.Common.{◌≡◌, ℕ, ◌-◌, ◌<◌, true, false, eqb, Some, None, Option, List, [], ◌∷◌, ◌++◌, length, Ok, Err, Result, append-nil, append_assoc, sym, refl, ap, ◌∙◌, subst, inl, inr, arith}
 use Rattle.std.proofs.lemmas.Bool.{cases_Bool, eqb-true}
 use Rattle.std.proofs.lemmas.Grind.{common_steps}
 use Rattle.std.proofs.lemmas.List.{drop_all}
@@ -16,12 +16,10 @@ use Rattle.record.specs.declared.kind.Kind.{Kind}
 use Rattle.resolver.specs.declared.fault.Fault.{Fault as Refused}
 use Rattle.state.specs.declared.state.State.{State}
 use Rattle.views.specs.declared.Viewable as viewable
-use Rattle.history.specs.Events.{Event, Use}
-use Rattle.history.specs.Uses.{Reached}
 use Rattle.both_ways.specs.Calling.{AllCalled, StopsAt}
 use Rattle.both_ways.specs.Ends.{Emptied}
 use Rattle.both_ways.specs.Queueing.{AllThrough, FullAt, RefusedAt, Stops}
-use Rattle.both_ways.specs.Runs.{CalledInOrder, Through, offered_next, emptied}
+use Rattle.both_ways.specs.Runs.{Through, offered_next, emptied}
 
 taken : {P : Type 0} (m : Message P) (q : Queue P) (r : Result (Unit {0}) QueueFault) → r ≡ offer_answer m q → r ≡ Ok tt → finds_full m q ≡ false
 taken m q r answer a = grind (arith, common_steps)

@@ -1,24 +1,22 @@
 -- What was called and what waits say the same as what was offered.
-use Rattle.std.proofs.Common.{◌≡◌, ℕ, zero, suc, ◌+◌, ◌-◌, ◌<◌, ◌≤◌, max, Bool, true, false, cond, not, ◌&&◌, ◌||◌, ◌⊎◌, ltb, leb, eqb, List, [], ◌∷◌, ◌++◌, length, take, drop, set, get_or, filter, is_some, is_none, Some, None, Ok, Err, Result, Option, append-nil, append_assoc, sym, refl, ap, ◌∙◌, subst, inl, inr, arith}
-use Rattle.std.proofs.lemmas.Bool.{true≢false, both_ways, cases_Bool, cases_eq, cases_lt, or_cases, or_left, or_right, and_from, and_parts, eq-eqb, eqb-true, leb-true, leb-false, lt-ltb, ltb-true, le-ltb}
+use Rattle.std.proofs.Common.{◌≡◌, ℕ, suc, ◌-◌, ◌<◌, ◌≤◌, Bool, true, false, not, ◌&&◌, ◌||◌, eqb, List, [], ◌∷◌, ◌++◌, take, drop, get_or, filter, is_some, Some, None, Result, Option, append_assoc, sym, refl, ap, ◌∙◌, subst, inl, inr, arith}
+use Rattle.std.proofs.lemmas.Bool.{true≢false, both_ways, cases_Bool, cases_lt, or_left, or_right, and_from, and_parts, eq-eqb, eqb-true, leb-true, leb-false, le-ltb}
 use Rattle.std.proofs.lemmas.Grind.{common_steps}
 use Rattle.std.proofs.lemmas.List.{take-append-drop}
 use Rattle.std.proofs.lemmas.List.Quantifiers.{position-Some}
-use Rattle.effects.specs.declared.effect.Kind.{Kind as Ask}
 use Rattle.queue.proofs.Offers.{offered_steps}
 use Rattle.queue.specs.Messages.{view_of, is_marker, is_finalization as finalizes_message, stays_past, repeats, asks_all, widened}
-use Rattle.queue.specs.Queues.{Queue, is_outdated, is_proper, finalized as finalized_queue, is_full, appended, found_at, is_repeated, merged, joined, offered, finds_full, drained, drained_from}
+use Rattle.queue.specs.Queues.{Queue, is_outdated, is_proper, finalized as finalized_queue, is_full, found_at, is_repeated, merged, offered, finds_full, drained, drained_from}
 use Rattle.queue.specs.declared.message.Message.{Message}
 use Rattle.queue.specs.declared.message.Message.TheVariants.{Updated, Certified, Resolve, Replayed}
 use Rattle.record.specs.declared.fault.Fault.{Fault as Misread}
 use Rattle.record.specs.declared.kind.Kind.{Kind}
 use Rattle.record.specs.declared.kind.Kind.TheVariants.{Notarization, Nullification, Finalization}
-use Rattle.terms.proofs.Laws.{to_the_end, own_end}
+use Rattle.terms.proofs.Laws.{to_the_end}
 use Rattle.terms.specs.Terms.{end, covering}
-use Rattle.history.specs.Calls.{Call, evidence, verdict, marker, request, is_nullification, is_finalization, some, highest, by_evidence, by_verdict, finalizes, finalized, passed, failed, covered, settles}
-use Rattle.history.specs.Events.{if_record}
+use Rattle.history.specs.Calls.{Call, evidence, verdict, marker, request, is_nullification, is_finalization, some, highest, by_evidence, by_verdict, finalizes, finalized, covered}
 use Rattle.both_ways.specs.Runs.{said_by, said, Through, nothing_offered, offered_next, emptied, VerdictsAgree, NoneFinalizedCovered}
-use Rattle.both_ways.proofs.Absorbed.{some_append, highest_append, low_evidence, low_verdict, settled_request}
+use Rattle.both_ways.proofs.Absorbed.{some_append, highest_append}
 use Rattle.both_ways.proofs.Finalized.{Fewer, finalized_first}
 use Rattle.both_ways.proofs.Repeated.{low_adds_nothing, repeat_adds_nothing, widened_says_both, widened_sound, widened_evidence, widened_verdicts, parted, parted_set}
 use Rattle.both_ways.proofs.Same.{Same, same_refl, same_sym, same_trans, same_more}

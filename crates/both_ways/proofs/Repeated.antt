@@ -1,6 +1,6 @@
 -- A message that repeats one that waits.
-use Rattle.std.proofs.Common.{◌≡◌, ℕ, zero, suc, ◌+◌, ◌<◌, ◌≤◌, Bool, true, false, cond, not, ◌&&◌, ◌||◌, ltb, leb, eqb, List, [], ◌∷◌, ◌++◌, length, take, drop, set, get_or, is_some, is_none, Some, None, Ok, Err, Result, Option, sym, refl, ap, ◌∙◌, subst, inl, inr, arith}
-use Rattle.std.proofs.lemmas.Bool.{true≢false, both_ways, cases_Bool, and_parts, eqb-true}
+use Rattle.std.proofs.Common.{◌≡◌, ℕ, zero, suc, ◌<◌, ◌≤◌, Bool, true, false, ◌&&◌, ltb, eqb, List, [], ◌∷◌, ◌++◌, length, take, drop, set, get_or, Some, None, Result, sym, refl, ap, ◌∙◌, inl, inr, arith}
+use Rattle.std.proofs.lemmas.Bool.{true≢false, cases_Bool, and_parts, eqb-true}
 use Rattle.std.proofs.lemmas.Grind.{common_steps}
 use Rattle.effects.specs.declared.effect.Kind.{Kind as Ask}
 use Rattle.effects.specs.declared.effect.Kind.TheVariants as ask
@@ -11,7 +11,7 @@ use Rattle.record.specs.declared.fault.Fault.{Fault as Misread}
 use Rattle.record.specs.declared.kind.Kind.{Kind}
 use Rattle.record.specs.declared.kind.Kind.TheVariants.{Notarization, Nullification, Finalization}
 use Rattle.terms.specs.Terms.{end}
-use Rattle.history.specs.Calls.{Call, evidence, verdict, marker, request, is_nullification, some, by_evidence, by_verdict, finalized, settles}
+use Rattle.history.specs.Calls.{Call, evidence, verdict, is_nullification, some, by_evidence, by_verdict, finalized, settles}
 use Rattle.both_ways.specs.Runs.{said_by}
 use Rattle.both_ways.proofs.Absorbed.{low_evidence, low_verdict, settled_request, repeated_evidence, repeated_verdict, repeated_request, widened_request}
 use Rattle.both_ways.proofs.Same.{Same, same_refl}

@@ -1,16 +1,11 @@
 -- Two lists of calls that say the same of all that is not finalized.
-use Rattle.std.proofs.Common.{◌≡◌, ℕ, ◌+◌, ◌<◌, ◌≤◌, max, Bool, true, false, cond, not, ◌&&◌, ◌||◌, ltb, leb, eqb, List, [], ◌∷◌, ◌++◌, is_some, is_none, Some, None, Option, sym, refl, ap, ◌∙◌, inl, inr, arith}
-use Rattle.std.proofs.lemmas.Bool.{true≢false, both_ways, cases_Bool, cases_eq, cases_lt, or_cases, and_parts, eqb-true, eq-eqb, ne_eqb}
+use Rattle.std.proofs.Common.{◌≡◌, ℕ, ◌<◌, max, false, ◌||◌, List, ◌∷◌, sym, refl, ap, ◌∙◌, inl, inr, arith}
+use Rattle.std.proofs.lemmas.Bool.{cases_lt}
 use Rattle.std.proofs.lemmas.Grind.{common_steps}
-use Rattle.board.specs.Asks.{same_kind}
 use Rattle.effects.specs.declared.effect.Kind.{Kind as Ask}
 use Rattle.effects.specs.declared.effect.Kind.TheVariants as ask
 use Rattle.record.specs.declared.kind.Kind.{Kind}
-use Rattle.record.specs.declared.kind.Kind.TheVariants.{Notarization, Nullification, Finalization}
-use Rattle.state.specs.Answers.{is_notarization}
-use Rattle.terms.proofs.Laws.{to_the_end, own_end}
-use Rattle.terms.specs.Terms.{end, covering}
-use Rattle.history.specs.Calls.{Call, evidence, verdict, marker, request, is_nullification, is_finalization, some, highest, by_evidence, by_verdict, is_marker, is_request, is_open_request, marked, requested, first_seat, target, finalizes, raises, sees, finalized, floor, current, notarized, judged, passed, failed, covered, settles}
+use Rattle.history.specs.Calls.{Call, some, highest, is_marker, is_open_request, marked, requested, first_seat, target, finalizes, raises, sees, finalized, floor, current, notarized, judged, passed, failed, covered, settles}
 
 module _ {R : Type 0} (viewed : R → ℕ) (sort : R → Kind) (L : ℕ) where
   pub record Same (h i : List (Call R)) : Type 0 where

@@ -1,23 +1,19 @@
 -- What waits in a queue says, with what was called, the same as all that was offered.
-use Rattle.std.proofs.Common.{◌≡◌, ℕ, zero, suc, ◌+◌, ◌-◌, ◌<◌, ◌≤◌, max, Bool, true, false, cond, not, ◌&&◌, ◌||◌, ◌⊎◌, ltb, leb, eqb, List, [], ◌∷◌, ◌++◌, length, take, drop, set, get_or, filter, is_some, is_none, Some, None, Ok, Err, Result, Option, append-nil, append_assoc, sym, refl, ap, ◌∙◌, subst, inl, inr, arith}
-use Rattle.std.proofs.lemmas.Bool.{true≢false, both_ways, cases_Bool, cases_eq, cases_lt, or_cases, and_parts, eq-eqb, eqb-true, leb-true, lt-ltb, ltb-true, le-ltb}
+use Rattle.std.proofs.Common.{◌≡◌, ℕ, ◌<◌, ◌≤◌, Bool, true, false, cond, not, ◌&&◌, ◌||◌, eqb, List, [], ◌∷◌, ◌++◌, filter, Ok, Result, append-nil, append_assoc, sym, refl, ap, ◌∙◌, inl, inr, arith}
+use Rattle.std.proofs.lemmas.Bool.{true≢false, cases_Bool, eq-eqb}
 use Rattle.std.proofs.lemmas.Grind.{common_steps}
-use Rattle.effects.specs.declared.effect.Kind.{Kind as Ask}
 use Rattle.queue.specs.Messages.{view_of, is_marker, stays_past}
 use Rattle.queue.specs.declared.message.Message.{Message}
 use Rattle.queue.specs.declared.message.Message.TheVariants.{Updated, Certified, Resolve, Replayed}
 use Rattle.record.specs.declared.fault.Fault.{Fault as Misread}
 use Rattle.record.specs.declared.kind.Kind.{Kind}
-use Rattle.record.specs.declared.kind.Kind.TheVariants.{Notarization, Nullification, Finalization}
 use Rattle.state.specs.Answers.{is_notarization}
-use Rattle.terms.proofs.Laws.{to_the_end, own_end}
+use Rattle.terms.proofs.Laws.{to_the_end}
 use Rattle.terms.specs.Terms.{end, covering}
-use Rattle.history.specs.Calls.{Call, evidence, verdict, marker, request, is_nullification, is_finalization, some, highest, by_evidence, by_verdict, is_marker as is_marker_call, is_request, is_open_request, marked, requested, first_seat, target, finalizes, raises, sees, finalized, floor, current, notarized, judged, passed, failed, covered, settles}
-use Rattle.history.specs.Events.{if_record}
+use Rattle.history.specs.Calls.{Call, evidence, is_nullification, some, highest, by_evidence, by_verdict, is_marker as is_marker_call, is_request, is_open_request, marked, requested, first_seat, finalizes, raises, sees, notarized, judged, passed, failed, covered}
 use Rattle.both_ways.specs.Runs.{said_by, said}
-use Rattle.both_ways.proofs.Absorbed.{some_append, highest_append, first_seat_append, no_seat}
+use Rattle.both_ways.proofs.Absorbed.{some_append, highest_append, first_seat_append}
 use Rattle.both_ways.proofs.Finalized.{Fewer}
-use Rattle.both_ways.proofs.Same.{Same}
 
 module _ {R P : Type 0} (read : P → Result R Misread) where
   pub said_append : (ms ns : List (Message P)) → said read (ms ++ ns) ≡ said read ns ++ said read ms

@@ -1,5 +1,5 @@
 -- The call of a message.
-use Rattle.std.specs.Prelude.{◌≡◌, ℕ, Bool, true, List, [], ◌∷◌, ◌++◌, Ok, Err, Result}
+use Rattle.std.specs.Prelude.{◌≡◌, ℕ, Bool, true, List, ◌∷◌, ◌++◌, Ok, Err, Result}
 use Rattle.board.specs.declared.open.Open.{Open}
 use Rattle.effects.specs.Lists.{Listed}
 use Rattle.effects.specs.declared.listed.Effects.{Effects}

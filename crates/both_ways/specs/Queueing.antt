@@ -1,5 +1,5 @@
 -- Messages that are offered to a queue, which is emptied after each of them.
-use Rattle.std.specs.Prelude.{◌≡◌, ℕ, Bool, true, List, [], ◌∷◌, ◌++◌, Result}
+use Rattle.std.specs.Prelude.{◌≡◌, ℕ, true, List, ◌∷◌, ◌++◌, Result}
 use Rattle.board.specs.declared.open.Open.{Open}
 use Rattle.both_ways.specs.declared.fault.Fault.{Fault}
 use Rattle.both_ways.specs.declared.fault.Fault.TheVariants.{Resolver as OfResolver, Queue as OfQueue}

@@ -1,8 +1,8 @@
 -- The open asks of a board that followed the effects of a call, by what its state holds.
-use Rattle.std.proofs.Common.{◌≡◌, ℕ, ◌+◌, ◌*◌, ◌<◌, ◌≤◌, Bool, true, false, cond, not, ◌&&◌, ◌||◌, ltb, leb, eqb, List, [], ◌∷◌, ◌++◌, map, length, is_some, Some, None, filter, Option, Decides, sym, refl, ap, ◌∙◌, subst, inl, inr, arith}
+use Rattle.std.proofs.Common.{◌≡◌, ℕ, ◌+◌, ◌<◌, ◌≤◌, Bool, true, false, not, ◌&&◌, ◌||◌, ltb, eqb, List, [], ◌∷◌, ◌++◌, map, None, Option, Decides, sym, refl, ap, ◌∙◌, inl, inr, arith}
 use Rattle.std.specs.List.{list_any}
 use Rattle.std.specs.Set.{is_member}
-use Rattle.std.proofs.lemmas.Bool.{true≢false, both_ways, cases_Bool, cases_eq, cases_lt, or_cases, and_parts, lt-ltb, ltb-true}
+use Rattle.std.proofs.lemmas.Bool.{both_ways, cases_Bool, or_cases, and_parts, lt-ltb, ltb-true}
 use Rattle.std.proofs.lemmas.Bool.Decides.{same_from_decides}
 use Rattle.std.proofs.lemmas.Grind.{common_steps}
 use Rattle.std.proofs.lemmas.List.{length-append, length-map}
@@ -18,9 +18,8 @@ use Rattle.effects.specs.declared.effect.Kind.{Kind as Ask}
 use Rattle.effects.specs.declared.effect.Kind.TheVariants as ask
 use Rattle.planning.proofs.Gaps.{gaps_exactly}
 use Rattle.planning.specs.Gaps.{among}
-use Rattle.planning.specs.Laws.{Anchor}
-use Rattle.resolver.specs.Applied.{ended, begun, in_turn, applied}
-use Rattle.state.specs.Laws.{fetched, fetches_gap, is_gap, StillOpen, NoGapUnasked, EveryGapAsked, SettledOnlyGrows}
+use Rattle.resolver.specs.Applied.{ended, in_turn, applied}
+use Rattle.state.specs.Laws.{fetched, is_gap, NoGapUnasked, EveryGapAsked, SettledOnlyGrows}
 use Rattle.state.specs.Lawful.{Lawful}
 use Rattle.state.specs.Settled.{settled}
 use Rattle.store.specs.Values.{Values, mark_view, finalized, has_failed, is_covered, gaps_of}
@@ -28,7 +27,7 @@ use Rattle.table.specs.Rows.{holds, lookup as lookup_row}
 use Rattle.table.specs.declared.mark.Mark.{Mark}
 use Rattle.views.specs.declared.Viewable as viewable
 use Rattle.history.specs.Promises.{if_needed, if_asked}
-use Rattle.history.proofs.Boards.{ends, fetches, if_left, Behind, Named, SameAncestry, all_ended, all_begun}
+use Rattle.history.proofs.Boards.{ends, fetches, if_left, Behind, Named, all_ended, all_begun}
 
 -- a failed view is fetched
 abbrev pub fetches_failed : ℕ → Effect → Bool
@@ -166,15 +165,18 @@ module _ {R : Type 0} {g : viewable.Ghosts R} (L : ℕ) where
     named : (vs : List ℕ) × Named vs (later positive s t es tells asked every grows)
     named = elim (cases_Bool t.replaying) [
       | inl on ↦ ([], record { few = omega arith; named = λ q w. let b = background_after positive s t es tells asked every grows q in absurd (both_ways (later positive s t es tells asked every grows q) (grind (arith, common_steps)) w) })
-      | inr over ↦ (gaps_of L t ++ map mark_view t.failed, record {
-        few = omega (arith, length-append (gaps_of L t) (map mark_view t.failed), length-map t.failed mark_view, ok.planned.gaps_few over, ok.sound.failed_few);
-        named = λ q w.
-            let b = background_after positive s t es tells asked every grows q in
-            let m = member_append q (gaps_of L t) (map mark_view t.failed) in
-            let n = gaps_member q (gaps_of L t) in
-            let o = failed_member q t.failed in
-            grind (arith, common_steps);
-      })
+      | inr over ↦ (
+        gaps_of L t ++ map mark_view t.failed,
+        record {
+          few = omega (arith, length-append (gaps_of L t) (map mark_view t.failed), length-map t.failed mark_view, ok.planned.gaps_few over, ok.sound.failed_few);
+          named = λ q w.
+              let b = background_after positive s t es tells asked every grows q in
+              let m = member_append q (gaps_of L t) (map mark_view t.failed) in
+              let n = gaps_member q (gaps_of L t) in
+              let o = failed_member q t.failed in
+              grind (arith, common_steps);
+        },
+      )
     ]
 
     pub asked_after : (wish : Ask → ℕ → Bool) (seat : Ask → ℕ → Option ℕ) (os : List Open) → Asked wish seat s os → Asked wish seat t (applied es os)

@@ -1,9 +1,9 @@
 -- What the effects of a call make of the open asks.
-use Rattle.std.proofs.Common.{◌≡◌, ℕ, ◌+◌, ◌*◌, ◌<◌, ◌≤◌, Bool, true, false, cond, not, ◌&&◌, ◌||◌, ltb, leb, eqb, List, [], ◌∷◌, ◌++◌, length, is_some, Some, None, filter, Option, sym, refl, ap, ◌∙◌, inl, inr, arith}
+use Rattle.std.proofs.Common.{◌≡◌, ℕ, ◌<◌, ◌≤◌, Bool, true, false, cond, not, ◌||◌, eqb, List, [], ◌∷◌, length, Some, None, Option, sym, refl, ap, ◌∙◌, inl, inr, arith}
 use Rattle.std.specs.List.{AllByRecursion as All, IsDistinct}
 use Rattle.std.specs.Set.{is_member}
 use Rattle.std.specs.List.{list_any}
-use Rattle.std.proofs.lemmas.Bool.{true≢false, both_ways, cases_Bool, cases_eq, eq-eqb, ne_eqb, eqb-true, le-leb, lt-leb, leb-true}
+use Rattle.std.proofs.lemmas.Bool.{both_ways, cases_Bool, cases_eq, eq-eqb, ne_eqb, eqb-true}
 use Rattle.std.proofs.lemmas.Cmp.{nat_eq_equiv}
 use Rattle.std.proofs.lemmas.Grind.{common_steps}
 use Rattle.std.proofs.lemmas.List.{length-map}
@@ -11,8 +11,8 @@ use Rattle.std.proofs.lemmas.Map.Made.{length-le_from_is_member}
 use Rattle.board.proofs.Sorting.{lookup_placed, lookup_filter, rises_distinct, rises_filter, rises_placed}
 use Rattle.board.proofs.Sorting as sorting
 use Rattle.board.specs.Asks.{is_background, place, place_of, rank, retires}
-use Rattle.board.specs.Boards.{opened, backfilled, backgrounds, retired}
-use Rattle.board.specs.Sorting.{lookup, placed, Rises, distinct}
+use Rattle.board.specs.Boards.{opened, backfilled, backgrounds}
+use Rattle.board.specs.Sorting.{lookup, placed, Rises}
 use Rattle.board.specs.declared.ask.Ask.{Ask}
 use Rattle.board.specs.declared.ask.Ask.TheVariants.{Background, Ancestry}
 use Rattle.board.specs.declared.open.Open.{Open}
@@ -21,7 +21,7 @@ use Rattle.effects.specs.declared.effect.Effect.{Effect}
 use Rattle.effects.specs.declared.effect.Effect.TheVariants.{Fetch, Settled, Finalized, Raised}
 use Rattle.effects.specs.declared.effect.Kind.{Kind}
 use Rattle.effects.specs.declared.effect.Kind.TheVariants.{Nullification, Notarization}
-use Rattle.resolver.specs.Applied.{ended, begun, in_turn, applied}
+use Rattle.resolver.specs.Applied.{ended, begun, in_turn}
 use Rattle.history.specs.Promises.{if_needed}
 use Rattle.history.proofs.Counts.{of_rank, ask_views, asks_once, ask_is_member}
 

@@ -1,18 +1,16 @@
 -- How many rows and asks there are, and which gaps, by the accepted calls.
-use Rattle.std.proofs.Common.{◌≡◌, ℕ, zero, suc, ◌+◌, ◌<◌, ◌≤◌, max, Bool, true, false, cond, not, ◌&&◌, ◌||◌, ltb, leb, eqb, List, [], ◌∷◌, ◌++◌, length, is_some, Some, None, filter, Option, sym, refl, ap, ◌∙◌, inl, inr, arith}
+use Rattle.std.proofs.Common.{◌≡◌, ℕ, zero, suc, ◌+◌, ◌<◌, ◌≤◌, Bool, true, not, ◌&&◌, eqb, List, [], ◌∷◌, is_some, filter, sym, refl, ◌∙◌, inl, inr, arith}
 use Rattle.std.specs.Set.{is_member}
-use Rattle.std.proofs.lemmas.Bool.{true≢false, both_ways, cases_Bool, cases_eq, or_cases, and_parts, eqb-true, eq-eqb, ne_eqb, lt-ltb}
+use Rattle.std.proofs.lemmas.Bool.{true≢false, cases_eq, ne_eqb, lt-ltb}
 use Rattle.std.proofs.lemmas.Grind.{common_steps}
-use Rattle.std.proofs.lemmas.List.Folds.{list_any-append}
-use Rattle.board.specs.Asks.{same_kind}
 use Rattle.effects.specs.declared.effect.Kind.{Kind as Ask}
 use Rattle.planning.proofs.Gaps.{same_gaps}
-use Rattle.planning.specs.Gaps.{counted, span, gaps as anchors}
+use Rattle.planning.specs.Gaps.{counted, gaps as anchors}
 use Rattle.record.specs.declared.kind.Kind.{Kind}
 use Rattle.state.specs.Answers.{is_notarization}
-use Rattle.store.specs.Values.{Values, mark_view, finalized as finalized_in, is_covered, gaps_of}
+use Rattle.store.specs.Values.{Values, is_covered, gaps_of}
 use Rattle.views.specs.declared.Viewable as viewable
-use Rattle.history.specs.Calls.{Call, evidence, verdict, marker, request, is_nullification, some, highest, by_evidence, by_verdict, requested, is_request, finalizes, raises, finalized, floor, current, nullified, notarized, judged, failed, first_nullification, last_passed, covered, is_gap, gaps}
+use Rattle.history.specs.Calls.{Call, evidence, verdict, marker, request, is_nullification, some, highest, by_evidence, by_verdict, requested, finalized, floor, current, nullified, notarized, failed, first_nullification, last_passed, covered, is_gap, gaps}
 use Rattle.history.specs.Rules.{view_in, request_in, all_in}
 use Rattle.history.proofs.Recorded.{Recorded}
 use Rattle.history.proofs.Told.{covered_alike}

@@ -1,17 +1,14 @@
 -- What covers a view: of the accepted nullifications, and of the rows.
-use Rattle.std.proofs.Common.{◌≡◌, ℕ, ◌<◌, ◌≤◌, Bool, true, false, cond, ◌&&◌, ◌⊎◌, ltb, leb, eqb, List, [], ◌∷◌, is_some, Some, None, Option, Decides, sym, refl, ap, ◌∙◌, inl, inr, arith, MatchOption}
-use Rattle.std.proofs.lemmas.Bool.{both_ways, true≢false, cases_Bool, cases_lt, or_cases, and_parts, lt-ltb, le-ltb, eqb-true}
-use Rattle.std.proofs.lemmas.Bool.Decides.{same_from_decides}
+use Rattle.std.proofs.Common.{◌≡◌, ℕ, ◌<◌, Bool, true, false, cond, ◌&&◌, ◌⊎◌, eqb, List, [], ◌∷◌, is_some, Some, None, Option, Decides, sym, refl, ap, ◌∙◌, inl, inr, arith, MatchOption}
+use Rattle.std.proofs.lemmas.Bool.{true≢false, cases_Bool, cases_lt, or_cases, and_parts, lt-ltb, le-ltb, eqb-true}
 use Rattle.std.proofs.lemmas.Grind.{common_steps}
-use Rattle.cover.proofs.Covers.{by_some_row, highest_covers}
-use Rattle.cover.specs.Covers.{cover, covered as row_covers, HighestCover}
+use Rattle.cover.specs.Covers.{HighestCover}
 use Rattle.record.specs.declared.kind.Kind.{Kind}
 use Rattle.state.specs.Serving.{or_else}
-use Rattle.table.proofs.Laws.{nearest}
-use Rattle.table.specs.Rows.{lookup, Ascending}
-use Rattle.terms.proofs.Laws.{own_end, to_the_end, end_rises, ends_past, covers_on, covers_between}
+use Rattle.table.specs.Rows.{lookup}
+use Rattle.terms.proofs.Laws.{own_end, to_the_end, end_rises, ends_past, covers_on}
 use Rattle.terms.specs.Terms.{end, covering}
-use Rattle.history.specs.Calls.{Call, evidence, verdict, marker, request, is_nullification, some, covered, if_nullifies, first_nullification, higher, highest_cover}
+use Rattle.history.specs.Calls.{Call, evidence, verdict, marker, request, is_nullification, some, covered, first_nullification, higher, highest_cover}
 
 -- what covers a view has its term
 pub same_end : (L : ℕ) → 0 < L → (u v : ℕ) → covering L u v ≡ true → end L u ≡ end L v

@@ -1,6 +1,5 @@
 -- From a point to the next one, by what a call of the resolver promises.
-use Rattle.std.proofs.Common.{◌≡◌, ℕ, Bool, true, false, cond, List, [], ◌∷◌, is_some, Some, None, Ok, Err, Result, Option, sym, refl, ap, ◌∙◌, subst, MatchResult}
-use Rattle.std.proofs.lemmas.Bool.{cases_Bool}
+use Rattle.std.proofs.Common.{◌≡◌, ℕ, Bool, true, false, cond, List, [], ◌∷◌, is_some, Some, None, Ok, Err, Result, Option, refl, ap, subst, MatchResult}
 use Rattle.board.specs.Boards.{requested as opens}
 use Rattle.board.specs.declared.ask.Ask.{Ask as Asks}
 use Rattle.board.specs.declared.open.Open.{Open}
@@ -23,7 +22,7 @@ use Rattle.store.specs.Fresh.{fresh}
 use Rattle.views.specs.declared.Viewable as viewable
 use Rattle.history.specs.Events.{Event, updated, certified, replayed, resolved, delivered, settled, produced, Use, use_with}
 use Rattle.history.specs.Promises.{Point}
-use Rattle.history.specs.Uses.{use_of, Reached, made, then, Step, Same, Changed, Evidence, Marker, Suits, passes}
+use Rattle.history.specs.Uses.{use_of, Reached, made, then, Step, Evidence, Suits}
 use Rattle.history.proofs.Uses.{at_each, point}
 
 if_both : {P P' Q Q' : Type 0} (b : Bool) → (P → P') → (Q → Q') → If b P Q → If b P' Q'
@@ -53,30 +52,30 @@ module _ {R : Type 0} {g : viewable.Ghosts R} (sort : R → Kind) (era : R → �
     taken_changed x t u same = rw same (record { values = t.state.values; asks = t.asks; fixed = t.state.fixed; promises = t.state.promises })
 
     pub updated_point : (read : Result R Misread) (n : ℕ) (a : Result (Unit {0}) Fault)
-      → a ≡ answer_of (refused_if (too_few (fits s) n) TooFewPlaces (if_read read (λ x. evidence_answer (term s) (sort x) x (held s))))
-      → MatchResult a (λ _. (x : R) × (read ≡ Ok x) × Taken s s' e e' os os' (sort x) x) (λ _. Unchanged s s' e e' × (b' ≡ b))
-      → (u : Use R) (h : List (Event R)) → Reached sort era u h s os → Point sort era u (updated read n a ∷ h) s' os'
+        → a ≡ answer_of (refused_if (too_few (fits s) n) TooFewPlaces (if_read read (λ x. evidence_answer (term s) (sort x) x (held s))))
+        → MatchResult a (λ _. (x : R) × (read ≡ Ok x) × Taken s s' e e' os os' (sort x) x) (λ _. Unchanged s s' e e' × (b' ≡ b))
+        → (u : Use R) (h : List (Event R)) → Reached sort era u h s os → Point sort era u (updated read n a ∷ h) s' os'
     updated_point read n (Ok a) is d u h past = next_point (updated read n (Ok a)) s s' os os' u h past (is, (d.0, d.1, taken_changed d.0 d.2 (use_of s u.approved) refl))
     updated_point read n (Err f) is d u h past = next_point (updated read n (Err f)) s s' os os' u h past (is, record { state = d.0.state; asks = ap asks d.1 })
 
     pub certified_point : (pass : Bool) (read : Result R Misread) (n : ℕ) (a : Result (Unit {0}) Fault)
-      → a ≡ answer_of (refused_if (too_few (fits s) n) TooFewPlaces (if_read read (λ x. verdict_answer (term s) pass (sort x) (g.viewed x) (held s))))
-      → MatchResult a (λ _. (x : R) × (read ≡ Ok x) × Judged s s' e e' os os' pass x) (λ _. Unchanged s s' e e' × (b' ≡ b))
-      → (u : Use R) (h : List (Event R)) → Reached sort era u h s os → Point sort era u (certified pass read n a ∷ h) s' os'
+        → a ≡ answer_of (refused_if (too_few (fits s) n) TooFewPlaces (if_read read (λ x. verdict_answer (term s) pass (sort x) (g.viewed x) (held s))))
+        → MatchResult a (λ _. (x : R) × (read ≡ Ok x) × Judged s s' e e' os os' pass x) (λ _. Unchanged s s' e e' × (b' ≡ b))
+        → (u : Use R) (h : List (Event R)) → Reached sort era u h s os → Point sort era u (certified pass read n a ∷ h) s' os'
     certified_point pass read n (Ok a) is d u h past = next_point (certified pass read n (Ok a)) s s' os os' u h past (is, (d.0, d.1, record { values = d.2.state.values; asks = d.2.asks; fixed = d.2.state.fixed; promises = d.2.state.promises }))
     certified_point pass read n (Err f) is d u h past = next_point (certified pass read n (Err f)) s s' os os' u h past (is, record { state = d.0.state; asks = ap asks d.1 })
 
     pub replayed_point : (n : ℕ) (a : Result (Unit {0}) Fault)
-      → a ≡ answer_of (refused_if (too_few (fits s) n) TooFewPlaces (marker_answer (term s) (held s)))
-      → MatchResult a (λ _. Ended s s' e e' os os') (λ _. Unchanged s s' e e' × (b' ≡ b))
-      → (u : Use R) (h : List (Event R)) → Reached sort era u h s os → Point sort era u (replayed n a ∷ h) s' os'
+        → a ≡ answer_of (refused_if (too_few (fits s) n) TooFewPlaces (marker_answer (term s) (held s)))
+        → MatchResult a (λ _. Ended s s' e e' os os') (λ _. Unchanged s s' e e' × (b' ≡ b))
+        → (u : Use R) (h : List (Event R)) → Reached sort era u h s os → Point sort era u (replayed n a ∷ h) s' os'
     replayed_point n (Ok a) is d u h past = next_point (replayed n (Ok a)) s s' os os' u h past (is, record { changed = record { values = d.state.values; asks = d.asks; fixed = d.state.fixed; promises = d.state.promises }; every_gap_asked = d.state.every_gap_asked })
     replayed_point n (Err f) is d u h past = next_point (replayed n (Err f)) s s' os os' u h past (is, record { state = d.0.state; asks = ap asks d.1 })
 
     pub delivered_point : (approved : R → Bool) (v : ℕ) (read : Result R Misread) (qs : List Asks) (n : ℕ) (a : Result Delivered Fault)
-      → a ≡ tested (delivery_test (fits s) n qs) (delivery_answer (term s) sort qs v (is_valid (term s) sort g.viewed era approved (epoch_of s) v) read (held s))
-      → MatchResult a (λ d. If d.taken ((x : R) × (if_valid (is_valid (term s) sort g.viewed era approved (epoch_of s) v) read ≡ Some x) × Taken s s' e e' os os' (sort x) x) (Nothing s s' e e' × (b' ≡ b))) (λ _. Unchanged s s' e e' × (b' ≡ b))
-      → (u : Use R) → u.approved ≡ approved → (h : List (Event R)) → Reached sort era u h s os → Point sort era u (delivered v read qs n a ∷ h) s' os'
+        → a ≡ tested (delivery_test (fits s) n qs) (delivery_answer (term s) sort qs v (is_valid (term s) sort g.viewed era approved (epoch_of s) v) read (held s))
+        → MatchResult a (λ d. If d.taken ((x : R) × (if_valid (is_valid (term s) sort g.viewed era approved (epoch_of s) v) read ≡ Some x) × Taken s s' e e' os os' (sort x) x) (Nothing s s' e e' × (b' ≡ b))) (λ _. Unchanged s s' e e' × (b' ≡ b))
+        → (u : Use R) → u.approved ≡ approved → (h : List (Event R)) → Reached sort era u h s os → Point sort era u (delivered v read qs n a ∷ h) s' os'
     delivered_point approved v read qs n (Ok a) is d u same h past = next_point (delivered v read qs n (Ok a)) s s' os os' u h past (
       rw same is,
       if_both a.taken (λ m. (m.0, (rw same m.1), taken_changed m.0 m.2 (use_of s u.approved) refl)) (λ m. record { state = m.0.state; asks = ap asks m.1 }) d,
@@ -85,9 +84,9 @@ module _ {R : Type 0} {g : viewable.Ghosts R} (sort : R → Kind) (era : R → �
 
   module _ (s : State R g) where
     pub resolved_point : {B : Type 0} (asks : B → List Open) (b b' : B) (p v : ℕ) (k : Ask) (t : Option ℕ) (a : Result Bool Fault)
-      → a ≡ request_answer (term s) p v k (asks b) (held s)
-      → MatchResult a (λ yes. If yes (asks b' ≡ opens v k t (asks b)) (b' ≡ b)) (λ _. b' ≡ b)
-      → (u : Use R) (h : List (Event R)) → Reached sort era u h s (asks b) → Point sort era u (resolved p v k t a ∷ h) s (asks b')
+        → a ≡ request_answer (term s) p v k (asks b) (held s)
+        → MatchResult a (λ yes. If yes (asks b' ≡ opens v k t (asks b)) (b' ≡ b)) (λ _. b' ≡ b)
+        → (u : Use R) (h : List (Event R)) → Reached sort era u h s (asks b) → Point sort era u (resolved p v k t a ∷ h) s (asks b')
     resolved_point asks b b' p v k t (Ok true) is d u h past = next_point (resolved p v k t (Ok true)) s s (asks b) (asks b') u h past (is, refl, d)
     resolved_point asks b b' p v k t (Ok false) is d u h past = next_point (resolved p v k t (Ok false)) s s (asks b) (asks b') u h past (is, refl, ap asks d)
     resolved_point asks b b' p v k t (Err f) is d u h past = next_point (resolved p v k t (Err f)) s s (asks b) (asks b') u h past (is, refl, ap asks d)

@@ -1,19 +1,17 @@
 -- What a state holds, by the calls that were accepted: at the making, and after one more.
-use Rattle.std.proofs.Common.{◌≡◌, ℕ, ◌+◌, ◌<◌, ◌≤◌, max, Bool, true, false, cond, not, ◌&&◌, ◌||◌, ltb, leb, eqb, List, [], ◌∷◌, is_some, Some, None, Option, sym, refl, ap, ◌∙◌, inl, inr, arith, rules}
-use Rattle.std.proofs.lemmas.Bool.{cases_Bool}
+use Rattle.std.proofs.Common.{◌≡◌, ℕ, Bool, true, false, cond, not, ◌&&◌, ◌||◌, ltb, List, [], ◌∷◌, is_some, Some, None, Option, refl, ap, arith}
 use Rattle.std.proofs.lemmas.Grind.{common_steps}
 use Rattle.record.specs.declared.kind.Kind.{Kind}
 use Rattle.record.specs.declared.kind.Kind.TheVariants.{Notarization, Nullification, Finalization}
 use Rattle.state.specs.Answers.{is_notarization}
-use Rattle.state.specs.Serving.{or_else}
 use Rattle.store.specs.Fresh.{fresh}
-use Rattle.store.specs.Steps.{nullified as with_nullification, notarized as with_notarization, finalized_at, pruned, raised, finalization_taken, before_planning, planned, updated, judged as without_pending, certified_at, passing, failed_at, failing, certified, ended, replayed}
+use Rattle.store.specs.Steps.{nullified as with_nullification, notarized as with_notarization, finalized_at, pruned, raised, finalization_taken, before_planning, planned, updated, certified_at, passing, failed_at, failing, certified, replayed}
 use Rattle.store.specs.Values.{Values, mark, mark_view, view_of, finalized as finalized_in, is_pending, has_failed}
 use Rattle.table.proofs.Laws.{one_more, one_less, only_kept, nothing_found}
 use Rattle.table.specs.Rows.{lookup}
 use Rattle.terms.specs.Terms.{end}
 use Rattle.views.specs.declared.Viewable as viewable
-use Rattle.history.specs.Calls.{Call, evidence, verdict, marker, request, is_nullification, is_finalization, some, highest, marked, finalizes, finalized, floor, current, notarized, judged, failed, last_finalization, first_nullification, last_passed}
+use Rattle.history.specs.Calls.{Call, evidence, verdict, marker, request, is_nullification, is_finalization, some, highest, marked, finalized, floor, current, notarized, judged, failed, last_finalization, first_nullification, last_passed}
 
 -- a verdict at a view passed it last, or failed it once
 pub judged_either : {R : Type 0} (viewed : R → ℕ) (sort : R → Kind) (v : ℕ) (h : List (Call R)) → judged viewed sort v h ≡ (is_some (last_passed viewed sort v h) || failed viewed sort v h)

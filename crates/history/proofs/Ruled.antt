@@ -1,13 +1,12 @@
 -- What a call answers by the state and the board is what the rules say by the accepted calls.
-use Rattle.std.proofs.Common.{◌≡◌, ℕ, ◌+◌, ◌*◌, ◌^◌, ◌<◌, ◌≤◌, max, Bool, true, false, cond, not, ◌&&◌, ◌||◌, ltb, leb, eqb, List, [], ◌∷◌, ◌++◌, length, is_some, Some, None, Ok, Err, Result, filter, Option, sym, refl, ap, ◌∙◌, inl, inr, arith}
-use Rattle.std.proofs.lemmas.Bool.{true≢false, both_ways, cases_Bool, cases_eq, or_cases, and_parts, eqb-true, eq-eqb, ne_eqb, lt-ltb}
+use Rattle.std.proofs.Common.{◌≡◌, ℕ, ◌+◌, ◌<◌, ◌≤◌, Bool, true, false, not, List, [], ◌∷◌, length, is_some, Ok, Err, Result, refl, ap, ◌∙◌, inl, inr, arith}
+use Rattle.std.proofs.lemmas.Bool.{cases_Bool, and_parts}
 use Rattle.std.proofs.lemmas.Grind.{common_steps}
 use Rattle.std.proofs.lemmas.List.Elements.{filter_agree}
-use Rattle.board.specs.Asks.{rank, is_background, kind_of, place}
-use Rattle.board.specs.Boards.{is_open, ancestries, ancestry_full}
-use Rattle.board.specs.Sorting.{lookup as found, Rises}
+use Rattle.board.specs.Asks.{rank, kind_of}
+use Rattle.board.specs.Boards.{is_open, ancestries}
 use Rattle.board.specs.declared.ask.Ask.{Ask as Asks}
-use Rattle.board.specs.declared.ask.Ask.TheVariants.{Background, Ancestry}
+use Rattle.board.specs.declared.ask.Ask.TheVariants.{Ancestry}
 use Rattle.board.specs.declared.open.Open.{Open}
 use Rattle.effects.specs.declared.effect.Kind.{Kind as Ask}
 use Rattle.effects.specs.declared.effect.Kind.TheVariants as ask
@@ -16,16 +15,13 @@ use Rattle.record.specs.declared.kind.Kind.{Kind}
 use Rattle.record.specs.declared.kind.Kind.TheVariants.{Notarization, Nullification, Finalization}
 use Rattle.resolver.specs.Calls.{request_answer}
 use Rattle.resolver.specs.Deliveries.{settled_asks, is_obsolete, judged, delivery_answer}
-use Rattle.state.specs.Answers.{Answer, evidence_answer, verdict_answer, marker_answer, gaps_over}
-use Rattle.state.specs.Settled.{settled}
+use Rattle.state.specs.Answers.{evidence_answer, verdict_answer, marker_answer}
 use Rattle.store.specs.Room.{row_due, rows_held, verdict_due, verdict_rows}
 use Rattle.store.specs.Steps.{updated, before_planning, planned}
-use Rattle.store.specs.Values.{Values, mark_view, finalized as finalized_in, is_nullified, is_pending, is_certified, has_failed, gaps_of}
-use Rattle.table.specs.Rows.{lookup}
-use Rattle.terms.specs.Terms.{end}
+use Rattle.store.specs.Values.{Values, mark_view, gaps_of}
 use Rattle.views.specs.declared.Viewable as viewable
 use Rattle.state.proofs.Sounds.{Rises as Rise}
-use Rattle.history.specs.Calls.{Call, evidence, requested, target, finalized, nullified, notarized, judged as judged_at, failed, last_passed, settles, gaps}
+use Rattle.history.specs.Calls.{Call, evidence, requested, target, settles, gaps}
 use Rattle.history.specs.Rules as rule
 use Rattle.history.specs.Rules.{view_in, request_in, all_in, how_many}
 use Rattle.history.proofs.Asks.{Asked}

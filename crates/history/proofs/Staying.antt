@@ -1,15 +1,11 @@
 -- What is settled and what is served stays so.
-use Rattle.std.proofs.Common.{◌≡◌, ℕ, ◌+◌, ◌<◌, ◌≤◌, max, Bool, true, false, cond, not, ◌&&◌, ◌||◌, ltb, leb, eqb, List, [], ◌∷◌, ◌++◌, is_some, Some, None, Option, sym, refl, ap, ◌∙◌, inl, inr, arith}
-use Rattle.std.proofs.lemmas.Bool.{true≢false, both_ways, cases_Bool, cases_eq, cases_lt, or_cases, and_parts, eqb-true}
+use Rattle.std.proofs.Common.{◌≡◌, ℕ, ◌<◌, true, false, List, [], ◌∷◌, ◌++◌, is_some, None, refl, arith}
 use Rattle.std.proofs.lemmas.Grind.{common_steps}
 use Rattle.effects.specs.declared.effect.Kind.{Kind as Ask}
 use Rattle.effects.specs.declared.effect.Kind.TheVariants as ask
 use Rattle.record.specs.declared.kind.Kind.{Kind}
-use Rattle.record.specs.declared.kind.Kind.TheVariants.{Notarization, Nullification, Finalization}
-use Rattle.state.specs.Serving.{or_else}
 use Rattle.terms.proofs.Laws.{own_end}
-use Rattle.terms.specs.Terms.{end}
-use Rattle.history.specs.Calls.{Call, evidence, verdict, marker, request, is_finalization, is_nullification, some, highest, finalized, floor, passed, last_finalization, last_passed, highest_cover, settles, serves}
+use Rattle.history.specs.Calls.{Call, evidence, verdict, marker, request, some, highest, passed, last_finalization, last_passed, highest_cover, settles, serves}
 use Rattle.history.specs.Promises.{takes_back}
 use Rattle.history.proofs.Counted.{finalized_low}
 

@@ -1,15 +1,13 @@
 -- What the effects of each call tell the board.
-use Rattle.std.proofs.Common.{◌≡◌, ℕ, ◌+◌, ◌<◌, ◌≤◌, max, Bool, true, false, cond, not, ◌&&◌, ◌||◌, ltb, leb, eqb, List, [], ◌∷◌, ◌++◌, map, is_some, Some, None, filter, Option, sym, refl, ap, ◌∙◌, subst, inl, inr, arith}
+use Rattle.std.proofs.Common.{◌≡◌, ℕ, ◌<◌, ◌≤◌, Bool, true, false, not, ◌&&◌, ◌||◌, ltb, leb, eqb, List, [], ◌∷◌, map, None, filter, Option, sym, refl, ap, ◌∙◌, inl, inr, arith}
 use Rattle.std.specs.List.{list_any}
-use Rattle.std.proofs.lemmas.Bool.{true≢false, both_ways, cases_Bool, cases_eq, cases_lt, or_cases, and_parts, lt-ltb, ltb-true, eqb-true, eq-eqb, ne_eqb}
+use Rattle.std.proofs.lemmas.Bool.{both_ways, cases_eq, eqb-true, eq-eqb, ne_eqb}
 use Rattle.std.proofs.lemmas.Grind.{common_steps}
 use Rattle.std.proofs.lemmas.List.Folds.{list_any-append}
-use Rattle.board.specs.Asks.{same_kind, retires}
+use Rattle.board.specs.Asks.{same_kind}
 use Rattle.board.specs.Boards.{opened}
 use Rattle.board.specs.declared.ask.Ask.TheVariants.{Background, Ancestry}
 use Rattle.board.specs.declared.open.Open.{Open}
-use Rattle.effects.specs.declared.effect.Effect.{Effect}
-use Rattle.effects.specs.declared.effect.Effect.TheVariants.{Fetch, Settled, Finalized, Raised}
 use Rattle.effects.specs.declared.effect.Kind.{Kind as Ask}
 use Rattle.effects.specs.declared.effect.Kind.TheVariants as ask
 use Rattle.planning.specs.Gaps.{among, missing}
@@ -20,12 +18,9 @@ use Rattle.state.specs.Lawful.{Lawful}
 use Rattle.state.specs.Settled.{settled}
 use Rattle.store.specs.Steps.{failed_fetch, nullified_effects, notarized_effects, finalization_effects, raised_effects, taken_effects, planned_effects, updated, updated_effects, before_planning, seen, finalized_at, nullified as with_nullification, notarized as with_notarization, finalization_taken, pruned, raised, planned, certified, certified_effects, failing_effects, passing, certified_at, failing, failed_at, passed as with_passed, replayed, replayed_effects, failed_bare, is_bare, ended}
 use Rattle.store.specs.Values.{Values, mark_view, finalized as finalized_in, has_failed, is_covered, unplanned}
-use Rattle.table.specs.Rows.{lookup, holds}
-use Rattle.table.specs.declared.mark.Mark.{Mark}
 use Rattle.terms.proofs.Laws.{to_the_end}
-use Rattle.terms.specs.Terms.{end, covering}
 use Rattle.views.specs.declared.Viewable as viewable
-use Rattle.history.specs.Calls.{Call, evidence, verdict, marker, request, is_nullification, is_finalization, some, highest, covered, failed, settles}
+use Rattle.history.specs.Calls.{Call, evidence, verdict, is_nullification, is_finalization, some, highest, failed}
 use Rattle.history.proofs.Asks.{gaps_member, failed_member, fetches_failed, failed_fetched, bare, Tells}
 use Rattle.history.proofs.Boards.{ends, fetches}
 use Rattle.history.proofs.Recorded.{Recorded, judged_either}

@@ -1,6 +1,6 @@
 -- What a state answers of a view, by the accepted calls.
-use Rattle.std.proofs.Common.{◌≡◌, ℕ, ◌+◌, ◌<◌, ◌≤◌, Bool, true, false, cond, not, ◌&&◌, ◌||◌, ltb, leb, eqb, List, [], ◌∷◌, is_some, Some, None, Option, Decides, sym, refl, ap, ◌∙◌, inl, inr, arith}
-use Rattle.std.proofs.lemmas.Bool.{both_ways, cases_Bool, cases_lt, lt-ltb, le-ltb}
+use Rattle.std.proofs.Common.{◌≡◌, ℕ, ◌<◌, cond, ltb, List, None, refl, inl, inr, arith}
+use Rattle.std.proofs.lemmas.Bool.{cases_lt, lt-ltb, le-ltb}
 use Rattle.std.proofs.lemmas.Bool.Decides.{same_from_decides}
 use Rattle.std.proofs.lemmas.Grind.{common_steps}
 use Rattle.cover.proofs.Covers.{by_some_row, highest_covers}
@@ -8,15 +8,15 @@ use Rattle.cover.specs.Covers.{cover}
 use Rattle.effects.specs.declared.effect.Kind.{Kind as Ask}
 use Rattle.effects.specs.declared.effect.Kind.TheVariants as ask
 use Rattle.record.specs.declared.kind.Kind.{Kind}
-use Rattle.state.specs.Serving.{served, or_else}
+use Rattle.state.specs.Serving.{served}
 use Rattle.state.specs.Settled.{settled}
 use Rattle.store.specs.Values.{Values, finalized as finalized_in, is_covered}
 use Rattle.table.proofs.Laws.{nearest}
-use Rattle.table.specs.Rows.{lookup, highest, Ascending}
+use Rattle.table.specs.Rows.{highest, Ascending}
 use Rattle.terms.proofs.Laws.{to_the_end, covers_between}
-use Rattle.terms.specs.Terms.{end, covering}
+use Rattle.terms.specs.Terms.{end}
 use Rattle.views.specs.declared.Viewable as viewable
-use Rattle.history.specs.Calls.{Call, finalized, floor, covered, first_nullification, highest_cover, last_passed, settles, serves}
+use Rattle.history.specs.Calls.{Call, covered, highest_cover, settles, serves}
 use Rattle.history.proofs.Covered.{same_end, by_some_call, same_cover, no_cover}
 use Rattle.history.proofs.Recorded.{Recorded, judged_either}
 

@@ -1,12 +1,12 @@
 -- The law, by induction on how a point was reached.
-use Rattle.std.proofs.Common.{◌≡◌, ℕ, ◌+◌, ◌<◌, ◌≤◌, Bool, true, false, cond, not, ◌&&◌, ◌||◌, ltb, leb, eqb, List, [], ◌∷◌, ◌++◌, length, is_some, is_none, Some, None, Ok, Err, Result, Option, Decides, append_assoc, sym, refl, ap, ◌∙◌, subst, inl, inr, arith, rules, MatchResult}
-use Rattle.std.proofs.lemmas.Bool.{true≢false, both_ways, cases_Bool, cases_eq, or_cases, and_parts, lt-ltb, ltb-true, eqb-true, eq-eqb, ne_eqb}
+use Rattle.std.proofs.Common.{◌≡◌, ℕ, ◌+◌, ◌<◌, ◌≤◌, Bool, true, false, not, ◌&&◌, eqb, List, [], ◌∷◌, ◌++◌, is_some, is_none, Some, Ok, Err, Result, Option, Decides, append_assoc, sym, refl, ap, ◌∙◌, subst, inl, inr, arith}
+use Rattle.std.proofs.lemmas.Bool.{true≢false, both_ways, cases_Bool, and_parts, eqb-true, eq-eqb, ne_eqb}
 use Rattle.std.proofs.lemmas.Bool.Decides.{same_from_decides}
 use Rattle.std.proofs.lemmas.Grind.{common_steps}
 use Rattle.board.proofs.Sorting.{lookup_placed, rises_placed}
 use Rattle.board.specs.Asks.{same_kind, place, place_of}
 use Rattle.board.specs.Boards.{opened, is_open, requested as opens}
-use Rattle.board.specs.Sorting.{lookup, placed, Rises}
+use Rattle.board.specs.Sorting.{lookup, placed}
 use Rattle.board.specs.declared.ask.Ask.{Ask as Asks}
 use Rattle.board.specs.declared.ask.Ask.TheVariants.{Background, Ancestry}
 use Rattle.board.specs.declared.open.Open.{Open}
@@ -14,7 +14,6 @@ use Rattle.effects.specs.declared.effect.Effect.{Effect}
 use Rattle.effects.specs.declared.effect.Kind.{Kind as Ask}
 use Rattle.effects.specs.declared.effect.Kind.TheVariants as ask
 use Rattle.planning.proofs.Gaps.{gaps_exactly}
-use Rattle.planning.specs.Laws.{Anchor}
 use Rattle.record.specs.declared.fault.Fault.{Fault as Misread}
 use Rattle.record.specs.declared.kind.Kind.{Kind}
 use Rattle.resolver.specs.Calls.{answer_of, If}
@@ -24,24 +23,22 @@ use Rattle.resolver.specs.declared.outcome.Delivered.{Delivered}
 use Rattle.state.specs.Answers.{refused_if, too_few, if_read, evidence_answer, verdict_answer}
 use Rattle.state.specs.declared.fault.Fault.TheVariants.{TooFewPlaces}
 use Rattle.state.proofs.Sounds.{Rises as Rise}
-use Rattle.state.specs.Calls.{Fixed}
 use Rattle.state.specs.Laws.{is_gap, EveryGapAsked}
 use Rattle.state.specs.Laws as states
 use Rattle.state.specs.Lawful.{Lawful}
 use Rattle.state.specs.Settled.{settled as holds_settled}
-use Rattle.state.specs.States.{held, term}
+use Rattle.state.specs.States.{held}
 use Rattle.state.specs.declared.state.State.{State}
 use Rattle.state.proofs.Facts.{rises_of}
 use Rattle.store.specs.Fresh.{fresh}
-use Rattle.store.specs.Steps as step
-use Rattle.store.specs.Values.{Values, finalized as finalized_in, is_covered, gaps_of}
+use Rattle.store.specs.Values.{Values, finalized as finalized_in, is_covered}
 use Rattle.views.specs.declared.Viewable as viewable
 use Rattle.history.specs.Calls.{Call, evidence, verdict, marker, request, some, highest, is_marker, is_request, is_open_request, requested, first_seat, target, marked, covered, settles, needed, serves}
 use Rattle.history.specs.Calls as words
 use Rattle.history.specs.Events.{Event, updated, certified, replayed, resolved, delivered, settled, produced, calls, accepted, Use, Answers, AllAnswer}
-use Rattle.history.specs.Promises.{Promises, Law, Point, if_needed, if_asked}
+use Rattle.history.specs.Promises.{Promises, Law, Point, if_asked}
 use Rattle.history.specs.Uses.{Reached, made, then, Step, Same, Changed, Evidence, Verdict, Marker, Suits, passes}
-use Rattle.history.proofs.Asks.{Tells, Asked, asked_after, wanted, bare}
+use Rattle.history.proofs.Asks.{Tells, Asked, asked_after, wanted}
 use Rattle.history.proofs.Boards.{ancestry_rank}
 use Rattle.history.proofs.Recorded.{Recorded, recorded_made, recorded_evidence, recorded_verdict, recorded_marker, recorded_request}
 use Rattle.history.proofs.Ruled.{evidence_alike, verdict_alike, marker_alike, request_alike, delivery_alike}
@@ -184,10 +181,10 @@ module _ {R : Type 0} {g : viewable.Ghosts R} (sort : R → Kind) (era : R → �
 
   -- a call that changed the state
   changed : (c : Call R) (h : List (Call R)) (vs : Values R g) (es : List Effect) (s s' : State R g) (os os' : List Open)
-    → Suits u s → Recorded sort u.length h (held s) → OpenBy u.length h (held s) os
-    → ((k : Ask) (v : ℕ) → is_request k v c ≡ false) → Recorded sort u.length (c ∷ h) vs
-    → Changed vs es s s' os os' → (Lawful u.length (held s') → held s' ≡ vs → Tells u.length (held s) (held s') es) → ((held s').replaying ≡ false → EveryGapAsked u.length (held s) (held s') es)
-    → Suits u s' × Recorded sort u.length (c ∷ h) (held s') × OpenBy u.length (c ∷ h) (held s') os'
+      → Suits u s → Recorded sort u.length h (held s) → OpenBy u.length h (held s) os
+      → ((k : Ask) (v : ℕ) → is_request k v c ≡ false) → Recorded sort u.length (c ∷ h) vs
+      → Changed vs es s s' os os' → (Lawful u.length (held s') → held s' ≡ vs → Tells u.length (held s) (held s') es) → ((held s').replaying ≡ false → EveryGapAsked u.length (held s) (held s') es)
+      → Suits u s' × Recorded sort u.length (c ∷ h) (held s') × OpenBy u.length (c ∷ h) (held s') os'
   changed c h vs es s s' os os' fits r o none next d tells every =
       let fits' : Suits u s' = record { length = d.fixed.term ∙ fits.length; epoch = d.fixed.epoch ∙ fits.epoch; fit = d.fixed.fits ∙ fits.fit } in
       let now' = subst (Recorded sort u.length (c ∷ h)) (sym d.values) next in

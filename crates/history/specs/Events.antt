@@ -1,5 +1,5 @@
 -- The calls of one resolver with what they answered, newest first: refused ones too.
-use Rattle.std.specs.Prelude.{◌≡◌, ℕ, Bool, true, false, cond, List, [], ◌∷◌, ◌++◌, Some, None, Ok, Err, Result, Option}
+use Rattle.std.specs.Prelude.{◌≡◌, ℕ, Bool, cond, List, [], ◌∷◌, ◌++◌, Ok, Err, Result, Option}
 use Rattle.board.specs.declared.ask.Ask.{Ask as Asked}
 use Rattle.effects.specs.declared.effect.Kind.{Kind as Ask}
 use Rattle.record.specs.declared.fault.Fault.{Fault as Misread}

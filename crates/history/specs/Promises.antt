@@ -12,7 +12,7 @@ use Rattle.state.specs.Settled.{settled as holds_settled}
 use Rattle.state.specs.States.{held}
 use Rattle.state.specs.declared.state.State.{State}
 use Rattle.views.specs.declared.Viewable as viewable
-use Rattle.history.specs.Calls.{Call, marked, requested, target, passed, by_verdict, some, settles, needed, serves}
+use Rattle.history.specs.Calls.{Call, marked, requested, target, passed, by_verdict, settles, needed, serves}
 use Rattle.history.specs.Events.{Event, calls, Use, AllAnswer}
 use Rattle.history.specs.Uses.{Reached}
 

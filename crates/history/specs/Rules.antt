@@ -1,5 +1,5 @@
 -- What the next call answers, by the calls accepted before it. Terms have L views.
-use Rattle.std.specs.Prelude.{ℕ, ◌+◌, ◌^◌, Bool, true, false, cond, not, ◌&&◌, List, [], ◌∷◌, ◌++◌, length, is_some, Some, None, filter, Ok, Err, Result, Option, eqb, nat_le, nat_lt}
+use Rattle.std.specs.Prelude.{ℕ, ◌+◌, ◌^◌, Bool, true, false, cond, not, ◌&&◌, List, [], ◌∷◌, ◌++◌, length, is_some, filter, Ok, Err, Result, eqb, nat_le, nat_lt}
 use Rattle.std.specs.Set.{distinct_count}
 use Rattle.board.specs.Asks.{kind_of, same_kind}
 use Rattle.board.specs.declared.ask.Ask.{Ask as Asked}
@@ -9,16 +9,15 @@ use Rattle.effects.specs.declared.effect.Kind.TheVariants as ask
 use Rattle.record.specs.declared.fault.Fault.{Fault as Misread}
 use Rattle.record.specs.declared.kind.Kind.{Kind}
 use Rattle.record.specs.declared.kind.Kind.TheVariants.{Notarization, Nullification, Finalization}
-use Rattle.resolver.specs.Calls.{answer_of}
-use Rattle.resolver.specs.Deliveries.{outcome_of, untaken, with_taken, if_valid, if_parsed, if_taken, delivery_test, tested, is_valid}
+use Rattle.resolver.specs.Deliveries.{outcome_of, untaken, with_taken, if_valid, if_parsed, if_taken}
 use Rattle.resolver.specs.declared.fault.Fault.{Fault}
 use Rattle.resolver.specs.declared.fault.Fault.TheVariants.{Board}
 use Rattle.resolver.specs.declared.outcome.Delivered.{Delivered}
 use Rattle.resolver.specs.declared.outcome.Outcome.TheVariants.{Ignored, Invalid}
-use Rattle.state.specs.Answers.{Answer, is_notarization, refused_if, too_few, if_read}
-use Rattle.state.specs.declared.fault.Fault.TheVariants.{TooFewPlaces, NotANotarization, ViewTooHigh, TableFull, TooManyGaps}
+use Rattle.state.specs.Answers.{Answer, is_notarization, refused_if}
+use Rattle.state.specs.declared.fault.Fault.TheVariants.{NotANotarization, ViewTooHigh, TableFull, TooManyGaps}
 use Rattle.terms.specs.Terms.{end}
-use Rattle.history.specs.Calls.{Call, evidence, verdict, marker, request, marked, requested, finalized, floor, current, nullified, notarized, judged, failed, last_passed, settles, gaps}
+use Rattle.history.specs.Calls.{Call, evidence, verdict, marker, request, marked, requested, finalized, current, nullified, notarized, judged, failed, last_passed, settles, gaps}
 
 -- the views of accepted evidence and verdicts, and those of accepted requests for a kind
 abbrev pub view_in : {R : Type 0} → (R → ℕ) → Call R → List ℕ

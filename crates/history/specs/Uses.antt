@@ -1,5 +1,5 @@
 -- Where one use of one resolver leads: it was made, and then called.
-use Rattle.std.specs.Prelude.{◌≡◌, ℕ, Bool, cond, List, [], ◌∷◌, Ok, Some, Result, MatchResult}
+use Rattle.std.specs.Prelude.{◌≡◌, ℕ, Bool, cond, List, [], ◌∷◌, Ok, Some, MatchResult}
 use Rattle.board.specs.Boards.{requested as opened}
 use Rattle.board.specs.declared.open.Open.{Open}
 use Rattle.record.specs.declared.kind.Kind.{Kind}

@@ -59,6 +59,7 @@ impl<'a, R: Record> Resolver<'a, R> {
         ensures outcome { MatchResult result (λ d. If d.taken ((x : R) × (if_valid (is_valid (term self.old.calls.state) R.Record.sort R.Viewable.viewed R.Record.era (V.accepted verifier.now) (epoch_of self.old.calls.state) view) (R.Record.parsed bytes.now) ≡ Found x) × Taken self.old.calls.state self.new.calls.state effects.old effects.new (B.asks board.old) (B.asks board.new) (R.Record.sort x) x) (Nothing self.old.calls.state self.new.calls.state effects.old effects.new × (board.new ≡ board.old))) (λ _. Unchanged self.old.calls.state self.new.calls.state effects.old effects.new × (board.new ≡ board.old)) }
         ensures every_history_goes_on { (u : Use R) → u.approved ≡ V.accepted verifier.now → (h : List (Event R)) → Reached R.Record.sort R.Record.era u h self.old.calls.state (B.asks board.old) → Point R.Record.sort R.Record.era u (delivered view (R.Record.parsed bytes.now) asks.now (places effects.old) result ∷ h) self.new.calls.state (B.asks board.new) }
     {
-        self.calls.deliver(board, verifier, view, bytes, asks, effects)
+        self.calls
+            .deliver(board, verifier, view, bytes, asks, effects)
     }
 }

@@ -1,5 +1,5 @@
 -- What a member answers to an order, and what the order changes.
-use Rattle.std.specs.Prelude.{◌≡◌, ℕ, Bool, cond, List, Some, None, Option, Ok, Err, Result, MatchResult}
+use Rattle.std.specs.Prelude.{◌≡◌, ℕ, Bool, List, Some, Ok, Err, Result, MatchResult}
 use Rattle.answers.specs.Answered.{done_of, yes_no, asked_of, judged_of, found_of}
 use Rattle.answers.specs.Texts.{view_in}
 use Rattle.answers.specs.declared.answered.Answered as answered

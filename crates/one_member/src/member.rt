@@ -46,8 +46,7 @@ impl<'a, B> Member<'a, B> {
         ensures list { result.effects.list.now ≡ list.old }
         ensures queue { queue_of result.queue ≡ record { finalization = None; messages = [] } }
     {
-        let Begun { resolver, queue } =
-            begin(admitted.term_length, admitted.epoch, memory, lent);
+        let Begun { resolver, queue } = begin(admitted.term_length, admitted.epoch, memory, lent);
         Member {
             resolver,
             board,

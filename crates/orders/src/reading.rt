@@ -69,12 +69,7 @@ fn plain<T: Drop>(text: &[u8], value: T) -> Result<T, Problem>
 
 /// Reads a call, by its name and the words behind that.
 #[tactic(auto, unfolding(crate::specs::Orders::plain_of, words::specs::Problems::bind))]
-fn read_call(
-    heap: Global,
-    name: CallName,
-    text: &[u8],
-    defaults: Defaults,
-) -> Result<Call, Problem>
+fn read_call(heap: Global, name: CallName, text: &[u8], defaults: Defaults) -> Result<Call, Problem>
     ensures { Told result calling (named_call defaults name text.now) }
 {
     match name {

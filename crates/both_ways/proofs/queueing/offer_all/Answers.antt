@@ -1,4 +1,4 @@
-use Rattle.std.proofs.Common.{◌≡◌, ℕ, List, [], Err, suc, drop, get_or, rules}
+use Rattle.std.proofs.Common.{◌≡◌, ℕ, List, [], Err, suc, drop, rules}
 use Rattle.queue.specs.declared.message.Message.{Message}
 use Rattle.queue.specs.declared.message.Message.TheVariants.{Updated}
 use Rattle.record.specs.declared.kind.Kind.TheVariants.{Notarization}

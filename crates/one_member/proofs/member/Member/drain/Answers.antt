@@ -1,4 +1,4 @@
-use Rattle.std.proofs.Common.{rules, ◌≡◌, ◌∙◌, ap, subst, sym, refl, length, min, arith}
+use Rattle.std.proofs.Common.{rules, ◌∙◌, ap, subst, refl, length, arith}
 use Rattle.std.proofs.lemmas.List.{length-take-le}
 use Rattle.std.specs.Io.KnownBytes.{Appends}
 use Rattle.queue.specs.Pendings.{queue_of}
