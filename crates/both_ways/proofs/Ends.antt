@@ -23,7 +23,7 @@ use Rattle.history.specs.Promises.{Promises, if_asked}
 use Rattle.history.proofs.Counted.{finalized_low}
 use Rattle.history.proofs.Uses.{law, at_each}
 use Rattle.both_ways.specs.Ends.{Alike, Emptied, EndAlike}
-use Rattle.both_ways.specs.Running.{Ran, FreshEndAlike}
+use Rattle.both_ways.specs.Running.{all_out, Ran, FreshEndAlike}
 use Rattle.both_ways.specs.Runs.{none_called, Through, nothing_offered, said, VerdictsAgree}
 use Rattle.both_ways.proofs.Called.{all_called, all_sound}
 use Rattle.both_ways.proofs.Queued.{inside, through}
@@ -182,8 +182,8 @@ module _ {R P : Type 0} (g : viewable.Ghosts R) (read : P → Result R Misread) 
       (above L positive (said read ms) (calls w.direct) first agree) (above L positive (said read ms) (calls w.later) all agree)
 
   -- two runs from the making
-  pub fresh_end_alike : (ms : List (Message P)) (s s' : State R g) (os os' : List Open) (t t' : State R g) (ps ps' : List Open) (q q' : Queue P) → Ran read sort era ms s s' os os' t t' ps ps' q q' → FreshEndAlike read sort era ms s s' os os' t t' ps ps' q
-  fresh_end_alike ms s s' os os' t t' ps ps' q q' ran u w L a b from from' none =
+  pub fresh_end_alike : (ms : List (Message P)) (cuts : List ℕ) (places : ℕ) (s s' : State R g) (os os' : List Open) (t t' : State R g) (ps ps' : List Open) (q q' : Queue P) → Ran read sort era ms cuts places s s' os os' t t' ps ps' q q' → FreshEndAlike read sort era ms cuts places s s' os os' t t' ps ps' q
+  fresh_end_alike ms cuts places s s' os os' t t' ps ps' q q' ran u w L a b from from' none =
       let d = ran.directly u [] [] none_called from in
       let e = ran.through w [] [] [] (subst (Through [] []) (sym (nothing q none)) nothing_offered) none_called from' in
       end_alike L ms s' t' os' ps' (record {
@@ -194,13 +194,13 @@ module _ {R P : Type 0} (g : viewable.Ghosts R) (read : P → Result R Misread) 
         direct = d.0;
         directly = d.1;
         directly_reached = d.2;
-        out = e.0;
+        out = all_out ms cuts places q;
         left = q';
-        queued = e.2;
+        queued = e.1;
         emptied = ran.emptied;
-        later = e.1;
-        then = e.3;
-        then_reached = e.4;
+        later = e.0;
+        then = e.2;
+        then_reached = e.3;
       })
     where
       nothing : (q : Queue P) → Emptied q → q ≡ record { finalization = None; messages = [] }

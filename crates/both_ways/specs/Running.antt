@@ -1,9 +1,9 @@
 -- Messages that are called directly, and through a queue.
-use Rattle.std.specs.Prelude.{◌≡◌, ℕ, ◌⊎◌, List, [], Result}
+use Rattle.std.specs.Prelude.{◌≡◌, ℕ, ◌⊎◌, List, [], ◌++◌, length, Result}
 use Rattle.board.specs.declared.open.Open.{Open}
 use Rattle.both_ways.specs.declared.fault.Fault.{Fault}
 use Rattle.both_ways.specs.declared.fault.Fault.TheVariants.{Resolver as OfResolver}
-use Rattle.queue.specs.Queues.{Queue}
+use Rattle.queue.specs.Queues.{Queue, drained}
 use Rattle.queue.specs.declared.message.Message.{Message}
 use Rattle.record.specs.declared.fault.Fault.{Fault as Misread}
 use Rattle.record.specs.declared.kind.Kind.{Kind}
@@ -12,16 +12,22 @@ use Rattle.state.specs.declared.state.State.{State}
 use Rattle.views.specs.declared.Viewable as viewable
 use Rattle.both_ways.specs.Calling.{AllCalled, StopsAt}
 use Rattle.both_ways.specs.Ends.{Alike, Emptied}
-use Rattle.both_ways.specs.Queueing.{AllThrough, Stops}
+use Rattle.both_ways.specs.Queueing.{so_far, AllThrough, Stops}
 use Rattle.both_ways.specs.Runs.{AllCarry, said, VerdictsAgree, NoneFinalizedCovered}
 use Rattle.history.specs.Events.{Use}
 use Rattle.history.specs.Uses.{Reached}
 
-module _ {R P : Type 0} {g : viewable.Ghosts R} (read : P → Result R Misread) (sort : R → Kind) (era : R → ℕ) (ms : List (Message P)) where
+-- all that comes out of a queue to which messages are offered: after each as `cuts` says, and at the end the rest
+abbrev pub all_out : {P : Type 0} → List (Message P) → List ℕ → ℕ → Queue P → List (Message P)
+all_out ms cuts places q =
+    let before = so_far ms cuts places q (length ms) in
+    before.0 ++ (drained 65 before.1).0
+
+module _ {R P : Type 0} {g : viewable.Ghosts R} (read : P → Result R Misread) (sort : R → Kind) (era : R → ℕ) (ms : List (Message P)) (cuts : List ℕ) (places : ℕ) where
   -- all were called, both ways, and none waits
   pub record Ran (s s' : State R g) (os os' : List Open) (t t' : State R g) (ps ps' : List Open) (q q' : Queue P) : Type 0 where
     pub directly : AllCalled read sort era ms s s' os os'
-    pub through : AllThrough read sort era ms q q' t t' ps ps'
+    pub through : AllThrough read sort era ms (all_out ms cuts places q) q q' t t' ps ps'
     pub emptied : Emptied q'
 
   -- a direct call was refused, and nothing was offered

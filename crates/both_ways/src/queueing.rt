@@ -1,9 +1,9 @@
-ghost use Rattle.std.specs.Prelude.{◌≡◌, [], ◌∷◌, ◌++◌, drop, length, MatchResult};
+ghost use Rattle.std.specs.Prelude.{◌≡◌, [], ◌∷◌, ◌++◌, drop, min, length, IfOk, MatchResult, slice_index_or};
 ghost use Rattle.both_ways.specs.Calling.{AllCalled, StopsAt};
-ghost use Rattle.both_ways.specs.Queueing.{AllThrough, Stops};
+ghost use Rattle.both_ways.specs.Queueing.{so_far, AllThrough, Stops};
 ghost use Rattle.effects.specs.Lists.{places};
 ghost use Rattle.queue.specs.Pendings.{queue_of};
-ghost use Rattle.queue.specs.Queues.{drained};
+ghost use Rattle.queue.specs.Queues.{offered, drained};
 
 use crate::Fault;
 use crate::calling::call_all;
@@ -39,13 +39,21 @@ pub fn offer_one<R: Record, B: Board>(
     list: &mut [Message<[u8; LENGTH]>],
     effects: &mut Effects,
 ) -> Result<(), Fault>
-    ensures offered { MatchResult result (λ _. AllThrough R.Record.parsed R.Record.sort R.Record.era (message ∷ []) (queue_of queue.old) (queue_of queue.new) resolver.old.calls.state resolver.new.calls.state (B.asks board.old) (B.asks board.new)) (λ f. Stops R.Record.parsed R.Record.sort R.Record.era (message ∷ []) f (queue_of queue.old) (queue_of queue.new) resolver.old.calls.state resolver.new.calls.state (B.asks board.old) (B.asks board.new)) }
+    ensures offered { MatchResult result (λ _. AllThrough R.Record.parsed R.Record.sort R.Record.era (message ∷ []) (drained (length list.old) (offered message (queue_of queue.old))).0 (queue_of queue.old) (queue_of queue.new) resolver.old.calls.state resolver.new.calls.state (B.asks board.old) (B.asks board.new)) (λ f. Stops R.Record.parsed R.Record.sort R.Record.era (message ∷ []) f (queue_of queue.old) (queue_of queue.new) resolver.old.calls.state resolver.new.calls.state (B.asks board.old) (B.asks board.new)) }
+    ensures queue { IfOk result (λ _. queue_of queue.new ≡ (drained (length list.old) (offered message (queue_of queue.old))).1) }
     ensures list { length list.new ≡ length list.old }
     ensures places { places effects.new ≡ places effects.old }
 {
     queue.handle(message)?;
     empty_into(resolver, board, queue, list, effects)?;
     Ok(())
+}
+
+/// Into how many of so many places the queue is emptied after the message `i`.
+fn cut(cuts: &[usize], i: usize, places: usize) -> usize
+    ensures { result ≡ min (slice_index_or cuts.now i 0) places }
+{
+    cuts.get(i).copied().unwrap_or(0).min(places)
 }
 
 /// Offers messages to a queue one after the other, and empties it after each into as many places of the list as `cuts`
@@ -59,12 +67,13 @@ pub fn offer_all<R: Record, B: Board>(
     list: &mut [Message<[u8; LENGTH]>],
     effects: &mut Effects,
 ) -> Result<(), Fault>
-    ensures offered { MatchResult result (λ _. AllThrough R.Record.parsed R.Record.sort R.Record.era messages.now (queue_of queue.old) (queue_of queue.new) resolver.old.calls.state resolver.new.calls.state (B.asks board.old) (B.asks board.new)) (λ f. Stops R.Record.parsed R.Record.sort R.Record.era messages.now f (queue_of queue.old) (queue_of queue.new) resolver.old.calls.state resolver.new.calls.state (B.asks board.old) (B.asks board.new)) }
+    ensures offered { MatchResult result (λ _. AllThrough R.Record.parsed R.Record.sort R.Record.era messages.now (so_far messages.now cuts.now (length list.old) (queue_of queue.old) (length messages.now)).0 (queue_of queue.old) (queue_of queue.new) resolver.old.calls.state resolver.new.calls.state (B.asks board.old) (B.asks board.new)) (λ f. Stops R.Record.parsed R.Record.sort R.Record.era messages.now f (queue_of queue.old) (queue_of queue.new) resolver.old.calls.state resolver.new.calls.state (B.asks board.old) (B.asks board.new)) }
+    ensures queue { IfOk result (λ _. queue_of queue.new ≡ (so_far messages.now cuts.now (length list.old) (queue_of queue.old) (length messages.now)).1) }
     ensures list { length list.new ≡ length list.old }
     ensures places { places effects.new ≡ places effects.old }
 {
     for i in 0..messages.len() {
-        let places = cuts.get(i).copied().unwrap_or(0).min(list.len());
+        let places = cut(cuts, i, list.len());
         offer_one(
             resolver,
             board,

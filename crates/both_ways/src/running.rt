@@ -27,7 +27,7 @@ fn run<R: Record, B: Board, D: Board>(
     list: &mut [Message<[u8; LENGTH]>],
     effects: &mut Effects,
 ) -> Result<(), Fault>
-    ensures ran { MatchResult result (λ _. Ran R.Record.parsed R.Record.sort R.Record.era messages.now direct.old.calls.state direct.new.calls.state (B.asks board.old) (B.asks board.new) queued.old.calls.state queued.new.calls.state (D.asks behind.old) (D.asks behind.new) (queue_of queue.old) (queue_of queue.new)) (λ f. Stopped R.Record.parsed R.Record.sort R.Record.era messages.now f direct.old.calls.state direct.new.calls.state (B.asks board.old) (B.asks board.new) queued.old.calls.state queued.new.calls.state (D.asks behind.old) (D.asks behind.new) (queue_of queue.old) (queue_of queue.new)) }
+    ensures ran { MatchResult result (λ _. Ran R.Record.parsed R.Record.sort R.Record.era messages.now cuts.now (length list.old) direct.old.calls.state direct.new.calls.state (B.asks board.old) (B.asks board.new) queued.old.calls.state queued.new.calls.state (D.asks behind.old) (D.asks behind.new) (queue_of queue.old) (queue_of queue.new)) (λ f. Stopped R.Record.parsed R.Record.sort R.Record.era messages.now cuts.now (length list.old) f direct.old.calls.state direct.new.calls.state (B.asks board.old) (B.asks board.new) queued.old.calls.state queued.new.calls.state (D.asks behind.old) (D.asks behind.new) (queue_of queue.old) (queue_of queue.new)) }
     ensures list { length list.new ≡ length list.old }
     ensures places { places effects.new ≡ places effects.old }
 {
@@ -52,10 +52,10 @@ pub fn both_ways<R: Record, B: Board, D: Board>(
     list: &mut [Message<[u8; LENGTH]>],
     effects: &mut Effects,
 ) -> Result<(), Fault>
-    ensures ran { MatchResult result (λ _. Ran R.Record.parsed R.Record.sort R.Record.era messages.now direct.old.calls.state direct.new.calls.state (B.asks board.old) (B.asks board.new) queued.old.calls.state queued.new.calls.state (D.asks behind.old) (D.asks behind.new) (queue_of queue.old) (queue_of queue.new)) (λ f. Stopped R.Record.parsed R.Record.sort R.Record.era messages.now f direct.old.calls.state direct.new.calls.state (B.asks board.old) (B.asks board.new) queued.old.calls.state queued.new.calls.state (D.asks behind.old) (D.asks behind.new) (queue_of queue.old) (queue_of queue.new)) }
+    ensures ran { MatchResult result (λ _. Ran R.Record.parsed R.Record.sort R.Record.era messages.now cuts.now (length list.old) direct.old.calls.state direct.new.calls.state (B.asks board.old) (B.asks board.new) queued.old.calls.state queued.new.calls.state (D.asks behind.old) (D.asks behind.new) (queue_of queue.old) (queue_of queue.new)) (λ f. Stopped R.Record.parsed R.Record.sort R.Record.era messages.now cuts.now (length list.old) f direct.old.calls.state direct.new.calls.state (B.asks board.old) (B.asks board.new) queued.old.calls.state queued.new.calls.state (D.asks behind.old) (D.asks behind.new) (queue_of queue.old) (queue_of queue.new)) }
     ensures list { length list.new ≡ length list.old }
     ensures places { places effects.new ≡ places effects.old }
-    ensures end_alike { result ≡ Fine tt → FreshEndAlike R.Record.parsed R.Record.sort R.Record.era messages.now direct.old.calls.state direct.new.calls.state (B.asks board.old) (B.asks board.new) queued.old.calls.state queued.new.calls.state (D.asks behind.old) (D.asks behind.new) (queue_of queue.old) }
+    ensures end_alike { result ≡ Fine tt → FreshEndAlike R.Record.parsed R.Record.sort R.Record.era messages.now cuts.now (length list.old) direct.old.calls.state direct.new.calls.state (B.asks board.old) (B.asks board.new) queued.old.calls.state queued.new.calls.state (D.asks behind.old) (D.asks behind.new) (queue_of queue.old) }
 {
     run(
         direct, board, queued, behind, queue, messages, cuts, list, effects,

@@ -4,6 +4,7 @@ use Rattle.std.specs.List.{AllByRecursion as All, IsDistinct}
 use Rattle.std.specs.Set.{is_member}
 use Rattle.std.specs.List.{list_any}
 use Rattle.std.proofs.lemmas.Bool.{both_ways, cases_Bool, cases_eq, eq-eqb, ne_eqb, eqb-true}
+use Rattle.std.proofs.Math.Bool.{or_assoc}
 use Rattle.std.proofs.lemmas.Cmp.{nat_eq_equiv}
 use Rattle.std.proofs.lemmas.Grind.{common_steps}
 use Rattle.std.proofs.lemmas.List.{length-map}
@@ -149,10 +150,6 @@ one_begun (Fetch v c r) os b vs up behind n = one_backfilled v os b vs up behind
 one_begun (Settled k x y) os b vs up behind n = (up, λ q. behind q ∙ ap (λ t. if_needed t q) (grind (arith, common_steps)), λ k q. refl)
 one_begun (Finalized v) os b vs up behind n = (up, λ q. behind q ∙ ap (λ t. if_needed t q) (grind (arith, common_steps)), λ k q. refl)
 one_begun (Raised v) os b vs up behind n = (up, λ q. behind q ∙ ap (λ t. if_needed t q) (grind (arith, common_steps)), λ k q. refl)
-
-or_assoc : (x y z : Bool) → ((x || y) || z) ≡ (x || (y || z))
-or_assoc true y z = refl
-or_assoc false y z = refl
 
 -- all of them
 pub all_begun : (es : List Effect) (os : List Open) (b : ℕ → Bool) (vs : List ℕ) → Rises os → Behind os b → Named vs (λ q. b q || list_any (fetches q) es) → Rises (in_turn begun es os) × Behind (in_turn begun es os) (λ q. b q || list_any (fetches q) es) × SameAncestry os (in_turn begun es os)

@@ -1,7 +1,8 @@
 -- How many rows and asks there are, and which gaps, by the accepted calls.
-use Rattle.std.proofs.Common.{◌≡◌, ℕ, zero, suc, ◌+◌, ◌<◌, ◌≤◌, Bool, true, not, ◌&&◌, eqb, List, [], ◌∷◌, is_some, filter, sym, refl, ◌∙◌, inl, inr, arith}
+use Rattle.std.proofs.Common.{◌≡◌, ℕ, zero, suc, ◌+◌, ◌<◌, ◌≤◌, Bool, true, not, ◌&&◌, eqb, List, [], ◌∷◌, is_some, filter, sym, refl, ◌∙◌, arith}
 use Rattle.std.specs.Set.{is_member}
-use Rattle.std.proofs.lemmas.Bool.{true≢false, cases_eq, ne_eqb, lt-ltb}
+use Rattle.std.proofs.lemmas.Bool.{true≢false, cases_eq, lt-ltb}
+use Rattle.std.proofs.lemmas.Cmp.{nat_eq_equiv}
 use Rattle.std.proofs.lemmas.Grind.{common_steps}
 use Rattle.effects.specs.declared.effect.Kind.{Kind as Ask}
 use Rattle.planning.proofs.Gaps.{same_gaps}
@@ -15,15 +16,12 @@ use Rattle.history.specs.Rules.{view_in, request_in, all_in}
 use Rattle.history.proofs.Recorded.{Recorded}
 use Rattle.history.proofs.Told.{covered_alike}
 
-eq_flips : (a b : ℕ) → eqb a b ≡ eqb b a
-eq_flips a b = elim (cases_eq a b) [ inl e ↦ rw e refl | inr n ↦ ne_eqb a b n ∙ sym (ne_eqb b a (λ e. n (sym e))) ]
-
 module _ {R : Type 0} (viewed : R → ℕ) (sort : R → Kind) where
   -- a view that some record is at is among the views
   names_evidence : (p : R → Bool) (v : ℕ) (h : List (Call R)) → some (by_evidence (λ x. p x && eqb (viewed x) v)) h ≡ true → is_member eqb (all_in (view_in viewed) h) v ≡ true
   unfolding some all_in
   names_evidence p v [] t = absurd (true≢false (sym t))
-  names_evidence p v (evidence x ∷ h) t = let i = names_evidence p v h in let e = cases_eq (viewed x) v in let w = eq_flips (viewed x) v in grind (arith, common_steps)
+  names_evidence p v (evidence x ∷ h) t = let i = names_evidence p v h in let e = cases_eq (viewed x) v in let w = nat_eq_equiv.symm (viewed x) v in grind (arith, common_steps)
   names_evidence p v (verdict b x ∷ h) t = let i = names_evidence p v h t in grind (arith, common_steps)
   names_evidence p v (marker ∷ h) t = names_evidence p v h t
   names_evidence p v (request w k a ∷ h) t = names_evidence p v h t
@@ -32,7 +30,7 @@ module _ {R : Type 0} (viewed : R → ℕ) (sort : R → Kind) where
   unfolding some all_in
   names_verdict p v [] t = absurd (true≢false (sym t))
   names_verdict p v (evidence x ∷ h) t = let i = names_verdict p v h t in grind (arith, common_steps)
-  names_verdict p v (verdict b x ∷ h) t = let i = names_verdict p v h in let w = eq_flips (viewed x) v in grind (arith, common_steps)
+  names_verdict p v (verdict b x ∷ h) t = let i = names_verdict p v h in let w = nat_eq_equiv.symm (viewed x) v in grind (arith, common_steps)
   names_verdict p v (marker ∷ h) t = names_verdict p v h t
   names_verdict p v (request w k a ∷ h) t = names_verdict p v h t
 
@@ -40,7 +38,7 @@ module _ {R : Type 0} (viewed : R → ℕ) (sort : R → Kind) where
   unfolding last_passed all_in
   names_passed v [] t = absurd (true≢false (sym t))
   names_passed v (evidence x ∷ h) t = let i = names_passed v h t in grind (arith, common_steps)
-  names_passed v (verdict b x ∷ h) t = let i = names_passed v h in let w = eq_flips (viewed x) v in grind (arith, common_steps)
+  names_passed v (verdict b x ∷ h) t = let i = names_passed v h in let w = nat_eq_equiv.symm (viewed x) v in grind (arith, common_steps)
   names_passed v (marker ∷ h) t = names_passed v h t
   names_passed v (request w k a ∷ h) t = names_passed v h t
 
@@ -77,7 +75,7 @@ names_requested k v [] = refl
 names_requested k v (evidence x ∷ h) = names_requested k v h
 names_requested k v (verdict b x ∷ h) = names_requested k v h
 names_requested k v (marker ∷ h) = names_requested k v h
-names_requested k v (request w j a ∷ h) = let i = names_requested k v h in let f = eq_flips w v in grind (arith, common_steps)
+names_requested k v (request w j a ∷ h) = let i = names_requested k v h in let f = nat_eq_equiv.symm w v in grind (arith, common_steps)
 
 same_in_span : (p q : ℕ → Bool) (low n : ℕ) → ((v : ℕ) → low ≤ v → v < low + n → p v ≡ q v) → filter p (counted low n) ≡ filter q (counted low n)
 same_in_span p q low zero same = refl
