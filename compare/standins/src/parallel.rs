@@ -1,0 +1,2 @@
+/// How work is spread over threads.
+pub trait Strategy {}
