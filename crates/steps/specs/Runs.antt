@@ -1,20 +1,26 @@
 -- Steps one after the other, each at the member and the counts that the one before it left.
-use Rattle.std.specs.Prelude.{◌≡◌, ℕ, zero, suc, ◌*◌, ◌/◌, ◌%◌, ◌^◌, List, length, min, Ok, slice_index_or}
+use Rattle.std.specs.Prelude.{◌≡◌, ℕ, zero, suc, ◌*◌, ◌/◌, ◌%◌, ◌^◌, ◌≤◌, true, List, [], length, min, None, Ok, slice_index_or}
 use Rattle.board.specs.declared.open.Open.{Open}
+use Rattle.effects.specs.Lists.{entries, places}
 use Rattle.queue.specs.Pendings.{queue_of}
 use Rattle.queue.specs.Queues.{drained}
 use Rattle.queue.specs.declared.message.Message.{Message}
 use Rattle.queue.specs.declared.message.Message.TheVariants.{Replayed}
+use Rattle.state.specs.States.{held, term, epoch_of, fits}
+use Rattle.store.specs.Fresh.{fresh}
 use Rattle.steps.specs.Carried.{QueueAlone, Called, Carried}
 use Rattle.steps.specs.Format.{step_of, step_bytes}
 use Rattle.steps.specs.Steps.{later_step}
-use Rattle.steps.specs.Tallies.{added}
+use Rattle.steps.specs.Tallies.{none_yet, added}
+use Rattle.steps.specs.declared.header.Header.{Header}
 use Rattle.steps.specs.declared.member.Member.{Member}
 use Rattle.steps.specs.declared.step.Step.{Step as OneStep}
 use Rattle.steps.specs.declared.step.Step.TheVariants.{Order, Drain}
 use Rattle.steps.specs.declared.tally.Answer.{Answer}
 use Rattle.steps.specs.declared.tally.Answer.TheVariants.{Nothing}
+use Rattle.steps.specs.declared.tally.Line.{Line}
 use Rattle.steps.specs.declared.tally.Tally.{Tally}
+use Rattle.terms.specs.Terms.{views}
 
 module _ {B : Type 0} (asks : B → List Open) where
   -- the first of some messages are called, and their answers counted
@@ -42,3 +48,24 @@ module _ {B : Type 0} (asks : B → List Open) where
   unfoldable pub Ran : ℕ → (span : ℕ) → List ℕ → ℕ → Member B → Member B → Tally → Tally → Type 0
   Ran room span bs zero m n t u = (n ≡ m) × (u ≡ t)
   Ran room span bs (suc i) m n t u = (k : Member B) × (r : Tally) × Ran room span bs i m k t r × Passed room (i * span % 2 ^ 64) bs (length bs / 24) k n r u
+
+  -- a member at the start of a replay, as a header says, that no call finds too few places
+  pub record Fresh (h : Header) (board : B) (m : Member B) : Type 0 where
+    pub values : held m.resolver.calls.state ≡ fresh
+    pub term_length : term m.resolver.calls.state ≡ views h.term_length
+    pub epoch : epoch_of m.resolver.calls.state ≡ h.epoch
+    pub seats : m.verifier.seats ≡ 4
+    pub quorum : m.verifier.quorum ≡ 3
+    pub board_is : m.board ≡ board
+    pub no_effects : entries m.effects ≡ []
+    pub nothing_waits : queue_of m.queue ≡ record { finalization = None; messages = [] }
+    pub fit : fits m.resolver.calls.state ≡ true
+    pub room : 256 ≤ places m.effects
+
+  -- all passes, from a fresh member on, and the asks that are open then
+  pub record Whole (h : Header) (bs : List ℕ) (board : B) (l : Line) : Type 0 where
+    pub first : Member B
+    pub last : Member B
+    pub begins : Fresh h board first
+    pub ran : Ran 65 h.span bs h.passes first last none_yet l.tally
+    pub open_asks : l.open_asks ≡ length (asks last.board) % 2 ^ 64

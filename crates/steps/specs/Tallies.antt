@@ -25,4 +25,4 @@ added (Served v) t = record (did t) { served = more v t.served }
 
 -- `calls C done D refused R effects E served S open O`
 abbrev pub line_text : Line → List ℕ
-line_text l = codes "calls " ++ (decimal l.tally.calls ++ (codes " done " ++ (decimal l.tally.done ++ (codes " refused " ++ (decimal l.tally.refused ++ (codes " effects " ++ (decimal l.tally.effects ++ (codes " served " ++ (decimal l.tally.served ++ (codes " open " ++ decimal l.open))))))))))
+line_text l = codes "calls " ++ (decimal l.tally.calls ++ (codes " done " ++ (decimal l.tally.done ++ (codes " refused " ++ (decimal l.tally.refused ++ (codes " effects " ++ (decimal l.tally.effects ++ (codes " served " ++ (decimal l.tally.served ++ (codes " open " ++ decimal l.open_asks))))))))))

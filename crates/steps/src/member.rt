@@ -64,7 +64,7 @@ impl<'a, B> Member<'a, B> {
 
 impl<'a, B: Board> Member<'a, B> {
     /// How many asks are open.
-    pub fn open(&self) -> usize
+    pub fn open_asks(&self) -> usize
         ensures { result ≡ length (B.asks self.now.board) % 2 ^ 64 }
     {
         let Counts {

@@ -1,12 +1,13 @@
-ghost use Rattle.std.specs.Prelude.{◌≡◌, ◌/◌, length};
+ghost use Rattle.std.specs.Prelude.{◌≡◌, ◌/◌, length, IfOk};
 ghost use Rattle.queue.specs.Pendings.{queue_of};
-ghost use Rattle.steps.specs.Runs.{AllCalled, Stepped, Passed, Ran};
+ghost use Rattle.steps.specs.Runs.{AllCalled, Stepped, Passed, Ran, Whole};
 ghost use Rattle.steps.specs.Tallies.{none_yet};
 
-use crate::{Answer, Member, Step, Stream, Tally};
+use crate::{Answer, Line, Member, Places, Step, Stream, Tally};
 use board::Board;
 use queue::{Message, PLACES};
 use record::LENGTH;
+use std::alloc::{AllocError, Global};
 
 /// The most messages that can wait: a finalization, and the others.
 const MOST: usize = PLACES + 1;
@@ -70,4 +71,17 @@ impl<'a, B: Board> Member<'a, B> {
         }
         tally
     }
+}
+
+/// Runs a stream on a fresh member with this board.
+pub fn run<B: Board + Drop>(heap: Global, stream: &Stream, board: B) -> Result<Line, AllocError>
+    ensures { IfOk result (Whole B.asks stream.now.header stream.now.steps.now board) }
+{
+    let mut places = Places::new(heap)?;
+    let mut member = places.lend(&stream.header, board);
+    let tally = member.run(stream);
+    Ok(Line {
+        tally,
+        open_asks: member.open_asks(),
+    })
 }

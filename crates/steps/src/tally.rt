@@ -70,7 +70,7 @@ impl Tally {
 pub struct Line {
     pub tally: Tally,
     /// How many asks are open.
-    pub open: usize,
+    pub open_asks: usize,
 }
 
 impl fmt::Display for Line {
@@ -87,7 +87,7 @@ impl fmt::Display for Line {
         write!(
             f,
             "calls {calls} done {done} refused {refused} effects {effects} served {served} open {}",
-            self.open
+            self.open_asks
         )
     }
 }

@@ -1,8 +1,7 @@
-use Rattle.std.proofs.Common.{◌≡◌, subst, ap, ◌∙◌}
+use Rattle.std.proofs.Common.{subst, ap, ◌∙◌}
 use Rattle.state.specs.States.{epoch_of}
 use Rattle.steps.specs.Carried.{Brought}
 use Rattle.steps.specs.Records.{record_of}
-use Rattle.steps.specs.Steps.{listed}
 use Rattle.steps.proofs.member.Member.carry_out.Goals as goal
 
 pub returns-in-Deliver : goal.returns-in-Deliver

@@ -3,7 +3,7 @@ use Rattle.std.proofs.lemmas.List.Filters.{length-filter_both}
 use Rattle.board.specs.Asks.{is_background}
 use Rattle.board.specs.declared.board.Counts.{Counts}
 use Rattle.board.specs.declared.open.Open.{Open}
-use Rattle.steps.proofs.member.Member.open.Goals as goal
+use Rattle.steps.proofs.member.Member.open_asks.Goals as goal
 
 -- each open ask is for the background, or it is not
 pub returns : goal.returns
