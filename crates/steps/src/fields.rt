@@ -7,15 +7,15 @@ use record::Kind;
 use views::View;
 
 /// The fields of a step, as they stand.
-#[derive(Clone, Copy, Debug)]
-pub struct Fields {
-    pub operation: u8,
-    pub kind: u8,
-    pub asks: u8,
-    pub offered: u8,
-    pub seat: u32,
-    pub view: View,
-    pub second: View,
+#[derive(Clone, Copy)]
+pub(crate) struct Fields {
+    operation: u8,
+    kind: u8,
+    asks: u8,
+    offered: u8,
+    seat: u32,
+    view: View,
+    second: View,
 }
 
 /// The number in four bytes, the highest first.
@@ -84,13 +84,10 @@ fn ask_set(bits: u8) -> Result<AskSet, Fault>
 impl Fields {
     /// The fields in a step's bytes.
     #[tactic(auto, unfolding(crate::specs::Format::fields_of))]
-    pub fn read(bytes: &[u8]) -> Result<Fields, Fault>
+    fn read(bytes: &[u8]) -> Result<Fields, Fault>
         ensures { result ≡ fields_read bytes.now }
     {
-        if bytes.len() != STEP {
-            return Err(Fault::PartOfAStep);
-        }
-        let [operation, kind, asks, offered, ..] = bytes else {
+        let ([operation, kind, asks, offered, ..], STEP) = (bytes, bytes.len()) else {
             return Err(Fault::PartOfAStep);
         };
         Ok(Fields {
@@ -106,7 +103,7 @@ impl Fields {
 
     /// The call that they make.
     #[tactic(auto, unfolding(crate::specs::Format::call_in))]
-    pub fn call(&self) -> Result<Call, Fault>
+    fn call(&self) -> Result<Call, Fault>
         ensures { result ≡ call_in self.now }
     {
         let view = self.view;
@@ -139,7 +136,7 @@ impl Fields {
 
     /// The step that they make, if it is not offered.
     #[tactic(auto, unfolding(crate::specs::Format::step_in))]
-    pub fn step(&self) -> Result<Step, Fault>
+    fn step(&self) -> Result<Step, Fault>
         ensures { result ≡ step_in self.now }
     {
         let view = self.view;

@@ -3,7 +3,7 @@
 
 mod carrying;
 pub mod fault;
-pub mod fields;
+mod fields;
 pub mod header;
 pub mod member;
 pub mod places;

@@ -64,7 +64,7 @@ impl<'a, B: Board> Member<'a, B> {
         ensures { Ran B.asks 65 stream.now.header.span stream.now.steps.now stream.now.header.passes self.old self.new none_yet result }
     {
         let mut list = [Message::Replayed; MOST];
-        let mut tally = Tally::new();
+        let mut tally = Tally::default();
         for i in 0..stream.header.passes {
             let by = i.wrapping_mul(stream.header.span);
             self.pass(stream, by, &mut list, &mut tally);

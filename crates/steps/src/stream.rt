@@ -38,7 +38,7 @@ impl<'a> Stream<'a> {
     }
 
     /// How many steps it has.
-    pub fn len(&self) -> usize
+    pub(crate) fn len(&self) -> usize
         ensures { result ≡ length self.now.steps.now / 24 }
     {
         self.steps.len() / STEP

@@ -1,5 +1,5 @@
 ghost use Rattle.std.specs.Prelude.{◌≡◌, Some};
-ghost use Rattle.steps.specs.Tallies.{none_yet, added, line_text};
+ghost use Rattle.steps.specs.Tallies.{added, line_text};
 
 use std::fmt;
 use views::View;
@@ -19,7 +19,7 @@ pub enum Answer {
 }
 
 /// The counts of answers. They may wrap.
-#[derive(Clone, Copy, Debug, PartialEq, Eq)]
+#[derive(Clone, Copy, Debug, Default, PartialEq, Eq)]
 pub struct Tally {
     pub calls: u64,
     pub done: u64,
@@ -31,19 +31,6 @@ pub struct Tally {
 }
 
 impl Tally {
-    /// Nothing counted.
-    pub fn new() -> Tally
-        ensures { result ≡ none_yet }
-    {
-        Tally {
-            calls: 0,
-            done: 0,
-            refused: 0,
-            effects: 0,
-            served: 0,
-        }
-    }
-
     /// Counts one more answer.
     pub fn add(&mut self, answer: Answer)
         ensures { self.new ≡ added answer self.old }

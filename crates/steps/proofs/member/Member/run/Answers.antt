@@ -1,4 +1,4 @@
-use Rattle.std.proofs.Common.{◌/◌, ◌%◌, ◌*◌, ◌^◌, length, refl, subst, ◌∙◌}
+use Rattle.std.proofs.Common.{rules, ◌/◌, ◌%◌, ◌*◌, ◌^◌, length, refl, subst, ◌∙◌}
 use Rattle.steps.specs.Runs.{Passed, Ran}
 use Rattle.steps.specs.Tallies.{none_yet}
 use Rattle.steps.proofs.InTurn.{ran_more}
@@ -6,7 +6,7 @@ use Rattle.steps.proofs.member.Member.run.Goals as goal
 
 pub loop-i-init : goal.loop-i-init
 unfolding Ran
-loop-i-init g c = ((refl, c.new-tally.ensures), refl)
+loop-i-init g c = ((refl, search rules), refl)
 
 pub loop-i-preserved : goal.loop-i-preserved
 loop-i-preserved g c =
