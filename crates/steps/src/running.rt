@@ -1,5 +1,4 @@
 ghost use Rattle.std.specs.Prelude.{◌≡◌, ◌/◌, length, IfOk};
-ghost use Rattle.queue.specs.Pendings.{queue_of};
 ghost use Rattle.steps.specs.Runs.{AllCalled, Stepped, Passed, Ran, Whole};
 ghost use Rattle.steps.specs.Tallies.{none_yet};
 
@@ -33,7 +32,7 @@ impl<'a, B: Board> Member<'a, B> {
         self.call_with_each(&list[..drained], tally);
     }
 
-    /// Carries one step out, and counts its answers. The list is where a drain puts what comes out of the queue.
+    /// Carries one step out, and counts its answers. A drain goes through the list; what that holds afterwards is open.
     pub fn step(&mut self, step: &Step, list: &mut [Message<[u8; LENGTH]>], tally: &mut Tally)
         ensures { Stepped B.asks (length list.old) step.now self.old self.new tally.old tally.new }
     {
