@@ -34,18 +34,18 @@ module _ {B : Type 0} (asks : B → List Open) where
     pub others : QueueAlone m emptied
     pub called : AllCalled xs (length xs) emptied n (added Nothing t) u
 
-  -- one step, where a list has room for so many messages
-  abbrev pub Stepped : ℕ → OneStep → Member B → Member B → Tally → Tally → Type 0
+  -- one step, where the list has so much room for what a drain takes out
+  abbrev pub Stepped : (room : ℕ) → OneStep → Member B → Member B → Tally → Tally → Type 0
   Stepped room (Order o) m n t u = (a : Answer) × Carried asks a m n o × (u ≡ added a t)
   Stepped room (Drain c) m n t u = Drained (drained (min c room) (queue_of m.queue)).0 m n t u × (queue_of n.queue ≡ (drained (min c room) (queue_of m.queue)).1)
 
   -- the first steps of a stream, so many views later
-  unfoldable pub Passed : ℕ → (by : ℕ) → List ℕ → ℕ → Member B → Member B → Tally → Tally → Type 0
+  unfoldable pub Passed : (room by : ℕ) → List ℕ → ℕ → Member B → Member B → Tally → Tally → Type 0
   Passed room by bs zero m n t u = (n ≡ m) × (u ≡ t)
   Passed room by bs (suc i) m n t u = (k : Member B) × (r : Tally) × (s : OneStep) × Passed room by bs i m k t r × (step_of (step_bytes i bs) ≡ Ok s) × Stepped room (later_step by s) k n r u
 
   -- the first passes over all steps: the pass i, counted from 0, lies i spans later
-  unfoldable pub Ran : ℕ → (span : ℕ) → List ℕ → ℕ → Member B → Member B → Tally → Tally → Type 0
+  unfoldable pub Ran : (room span : ℕ) → List ℕ → ℕ → Member B → Member B → Tally → Tally → Type 0
   Ran room span bs zero m n t u = (n ≡ m) × (u ≡ t)
   Ran room span bs (suc i) m n t u = (k : Member B) × (r : Tally) × Ran room span bs i m k t r × Passed room (i * span % 2 ^ 64) bs (length bs / 24) k n r u
 

@@ -8,9 +8,9 @@ use views::View;
 #[derive(Clone, Copy, Debug, PartialEq, Eq)]
 pub enum Answer {
     Refused,
-    /// It changed and found nothing.
+    /// Nothing came of it: a needless request, a record not taken, an ask not settled, none served.
     Nothing,
-    /// It did what it was to do, and no effects come of it.
+    /// It did what it was to do, which leaves no effects.
     Done,
     /// It was recorded, and so many effects came of it.
     Recorded(usize),
