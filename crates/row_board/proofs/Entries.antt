@@ -456,11 +456,14 @@ open_in_row v a rs i d e p =
 pub open_nowhere : (v : ℕ) (a : Ask) (rs : List Row) → position (λ r. eqb r.view v) rs ≡ None → false ≡ is_some (lookup (place v a) (sorted (asks_of rs)))
 open_nowhere v a rs p = ap is_some (sym ((in_order (asks_of rs)).1 (place v a) ∙ no_row v a rs (row_absent v rs p)))
 
+pub background_counted : (rs : List Row) → views_apart rs ≡ true → length (filter (has Background) rs) ≡ length (backgrounds (sorted (asks_of rs)))
+background_counted rs e = sym (counted_alike (λ o. is_background o.ask) (asks_of rs) (distinct_rows rs e) ∙ background_rows rs)
+
 -- both counts of the asks in order
 pub counted_rows : (rs : List Row) → views_apart rs ≡ true → record { background = length (filter (has Background) rs); ancestry = length (filter (has (Ancestry Nullification)) rs) + length (filter (has (Ancestry Notarization)) rs) } ≡ counted (sorted (asks_of rs))
 counted_rows rs e =
     let d = distinct_rows rs e in
-    let b : length (filter (has Background) rs) ≡ length (backgrounds (sorted (asks_of rs))) = sym (counted_alike (λ o. is_background o.ask) (asks_of rs) d ∙ background_rows rs) in
+    let b = background_counted rs e in
     let a : length (filter (has (Ancestry Nullification)) rs) + length (filter (has (Ancestry Notarization)) rs) ≡ length (ancestries (sorted (asks_of rs))) = sym (counted_alike (λ o. not (is_background o.ask)) (asks_of rs) d ∙ ancestry_rows rs) in
     cc
 

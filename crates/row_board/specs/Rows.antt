@@ -1,5 +1,5 @@
 -- The open asks of one view, as a row.
-use Rattle.std.specs.Prelude.{◌≡◌, ℕ, Bool, true, false, cond, not, ◌&&◌, List, [], ◌∷◌, ◌++◌, is_some, is_none, Some, None, Option}
+use Rattle.std.specs.Prelude.{◌≡◌, ℕ, Bool, true, false, cond, not, ◌&&◌, List, [], ◌∷◌, ◌++◌, is_some, is_none, Some, None, Option, nat_le}
 use Rattle.effects.specs.declared.effect.Kind.{Kind}
 use Rattle.effects.specs.declared.effect.Kind.TheVariants.{Nullification, Notarization}
 use Rattle.board.specs.Asks.{retires}
@@ -8,6 +8,7 @@ use Rattle.board.specs.declared.ask.Ask.{Ask}
 use Rattle.board.specs.declared.ask.Ask.TheVariants.{Background, Ancestry}
 use Rattle.board.specs.declared.open.Open.{Open}
 use Rattle.board.specs.declared.retire.Retire.{Retire}
+use Rattle.board.specs.declared.retire.Retire.TheVariants.{Settled, Finalized, Raised}
 use Rattle.row_board.specs.declared.row.Row.{Row}
 
 abbrev pub fresh : ℕ → Row
@@ -35,6 +36,12 @@ Fitting (Ancestry k) t = Unit {0}
 abbrev pub kept_target : Retire → ℕ → Kind → Option (Option ℕ) → Option (Option ℕ)
 kept_target q v k None = None
 kept_target q v k (Some t) = cond (retires q (opened v (Ancestry k) t)) None (Some t)
+
+-- whether asks at a view may end
+abbrev pub reached : Retire → ℕ → Bool
+reached (Settled k a b) v = nat_le a v && nat_le v b
+reached (Finalized w) v = nat_le v w
+reached (Raised w) v = nat_le v w
 
 abbrev pub closed : Retire → Row → Row
 closed q r = record { view = r.view; background = r.background && not (retires q (opened r.view Background None)); nullification = kept_target q r.view Nullification r.nullification; notarization = kept_target q r.view Notarization r.notarization }

@@ -126,6 +126,13 @@ impl<'a> RowBoard<'a> {
         self.as_slice().iter().filter(|row| row.has(ask)).count()
     }
 
+    /// How many background asks are open.
+    fn background(&self) -> usize
+        ensures { result ≡ length (backgrounds (open_asks self.now)) }
+    {
+        self.count(Ask::Background)
+    }
+
     /// Whether an ask is open.
     fn is_open(&self, view: View, ask: Ask) -> bool
         ensures { result ≡ is_open view ask (open_asks self.now) }
@@ -160,7 +167,7 @@ impl<'a> Board for RowBoard<'a> {
     ghost asks = { open_asks };
 
     fn fetch(&mut self, view: View) {
-        if self.is_open(view, Ask::Background) || self.counts().background >= BACKGROUND {
+        if self.is_open(view, Ask::Background) || self.background() >= BACKGROUND {
             return;
         }
         self.open(view, Ask::Background, None);
@@ -191,7 +198,7 @@ impl<'a> Board for RowBoard<'a> {
 
     fn counts(&self) -> Counts {
         Counts {
-            background: self.count(Ask::Background),
+            background: self.background(),
             ancestry: self.count(Ask::Ancestry(Kind::Nullification))
                 + self.count(Ask::Ancestry(Kind::Notarization)),
         }

@@ -1,5 +1,5 @@
 ghost use Rattle.std.specs.Prelude.{◌≡◌};
-ghost use Rattle.row_board.specs.Rows.{fresh, has, with_ask, kept_target, closed, is_bare};
+ghost use Rattle.row_board.specs.Rows.{fresh, has, with_ask, kept_target, reached, closed, is_bare};
 
 use board::{Ask, Open, Retire};
 use effects::Kind;
@@ -64,10 +64,23 @@ impl Row {
         ensures { self.new ≡ closed retire.now self.old }
     {
         let view = self.view;
+        if !reaches(retire, view) {
+            return;
+        }
         let background = Open::new(view, Ask::Background, None);
         self.background = self.background && !retire.ends(&background);
         self.nullification = kept(retire, view, Kind::Nullification, self.nullification);
         self.notarization = kept(retire, view, Kind::Notarization, self.notarization);
+    }
+}
+
+/// Whether asks at a view may end: most rows are passed over by this alone.
+fn reaches(retire: &Retire, view: View) -> bool
+    ensures { result ≡ reached retire.now view }
+{
+    match *retire {
+        Retire::Settled { start, end, .. } => start <= view && view <= end,
+        Retire::Finalized(last) | Retire::Raised(last) => view <= last,
     }
 }
 
