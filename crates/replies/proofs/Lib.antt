@@ -1,0 +1,4 @@
+pub mod Beginnings
+pub mod Buffers
+pub mod Makers
+pub mod Told

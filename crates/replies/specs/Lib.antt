@@ -1,0 +1,4 @@
+pub mod Lives
+pub mod Replies
+pub mod Talks
+pub mod Turns
