@@ -37,12 +37,7 @@ fn make<W: Write>(out: &mut W, setup: Setup) -> io::Result<Turn>
 }
 
 /// Answers a line where there is no member yet.
-pub fn answer_alone<W: Write>(
-    out: &mut W,
-    heap: Global,
-    line: u64,
-    text: &[u8],
-) -> io::Result<Turn>
+pub fn answer_alone<W: Write>(out: &mut W, heap: Global, line: u64, text: &[u8]) -> io::Result<Turn>
     ensures { IfOk result (λ t. Wrote (W.Write.contents out.old) (W.Write.contents out.new) (AnsweredAlone line text.now t)) }
 {
     match ask(heap, text, Defaults { epoch: 0, seats: 0 }) {

@@ -10,17 +10,17 @@ use Rattle.script.specs.Lines.{nothing, answered, making, ordered, draining}
 
 pub returns-in-Ok-Nothing : goal.returns-in-Ok-Nothing
 returns-in-Ok-Nothing g c = record {
-      answer = [];
-      written = Appends-nil (g.W.Write.contents c.args.out.now);
-      told = record { taken = Ok nothing; is = understood _ _ (rw (c.defaults.ensures, c.in-Ok-Nothing.field-0-is) at c.in-Ok-Nothing.ensures); told = ((refl, refl), refl) }
-    }
+  answer = [];
+  written = Appends-nil (g.W.Write.contents c.args.out.now);
+  told = record { taken = Ok nothing; is = understood _ _ (rw (c.defaults.ensures, c.in-Ok-Nothing.field-0-is) at c.in-Ok-Nothing.ensures); told = ((refl, refl), refl) };
+}
 
 pub returns-in_ok-writeln-in-Ok-Answer : goal.returns-in_ok-writeln-in-Ok-Answer
 returns-in_ok-writeln-in-Ok-Answer g c = record {
-      answer = line_of (text_of c.in-Ok-Answer.answer);
-      written = search rules;
-      told = record { taken = Ok (answered c.in-Ok-Answer.answer); is = understood _ _ (rw (c.defaults.ensures, c.in-Ok-Answer.field-0-is) at c.in-Ok-Answer.ensures); told = ((refl, refl), refl) }
-    }
+  answer = line_of (text_of c.in-Ok-Answer.answer);
+  written = search rules;
+  told = record { taken = Ok (answered c.in-Ok-Answer.answer); is = understood _ _ (rw (c.defaults.ensures, c.in-Ok-Answer.field-0-is) at c.in-Ok-Answer.ensures); told = ((refl, refl), refl) };
+}
 
 pub returns-in-Ok-Member : goal.returns-in-Ok-Member
 returns-in-Ok-Member g c =
@@ -30,10 +30,10 @@ returns-in-Ok-Member g c =
 
 pub returns-in_ok-writeln-in-Ok-Order : goal.returns-in_ok-writeln-in-Ok-Order
 returns-in_ok-writeln-in-Ok-Order g c = record {
-      answer = line_of (answer_text g.B.Board.asks c.carry_out-answered.new.self c.carry_out-answered.result);
-      written = search rules;
-      told = record { taken = Ok (ordered (meant c.in-Ok-Order.order)); is = understood _ _ (rw (c.defaults.ensures, c.in-Ok-Order.field-0-is) at c.in-Ok-Order.ensures); told = (refl, c.carry_out-answered.result, c.carry_out-answered.ensures, refl) }
-    }
+  answer = line_of (answer_text g.B.Board.asks c.carry_out-answered.new.self c.carry_out-answered.result);
+  written = search rules;
+  told = record { taken = Ok (ordered (meant c.in-Ok-Order.order)); is = understood _ _ (rw (c.defaults.ensures, c.in-Ok-Order.field-0-is) at c.in-Ok-Order.ensures); told = (refl, c.carry_out-answered.result, c.carry_out-answered.ensures, refl) };
+}
 
 pub returns-in_ok-drain-in-Ok-Drain : goal.returns-in_ok-drain-in-Ok-Drain
 returns-in_ok-drain-in-Ok-Drain g c =
@@ -41,7 +41,7 @@ returns-in_ok-drain-in-Ok-Drain g c =
     record {
       answer = _;
       written = d.written;
-      told = record { taken = Ok (draining c.in-Ok-Drain.count); is = understood _ _ (rw (c.defaults.ensures, c.in-Ok-Drain.field-0-is) at c.in-Ok-Drain.ensures); told = (refl, c.in_ok-drain-in-Ok-Drain.ensures.queue, d.emptied, d.others, d.text, refl, d.steps) }
+      told = record { taken = Ok (draining c.in-Ok-Drain.count); is = understood _ _ (rw (c.defaults.ensures, c.in-Ok-Drain.field-0-is) at c.in-Ok-Drain.ensures); told = (refl, c.in_ok-drain-in-Ok-Drain.ensures.queue, d.emptied, d.others, d.text, refl, d.steps) };
     }
 
 pub returns-in-Err : goal.returns-in-Err

@@ -10,17 +10,17 @@ use Rattle.script.specs.Lines.{nothing, answered, making, ordered, draining}
 
 pub returns-in-Ok-Nothing : goal.returns-in-Ok-Nothing
 returns-in-Ok-Nothing g c = record {
-      answer = [];
-      written = Appends-nil (g.W.Write.contents c.args.out.now);
-      told = record { taken = Ok nothing; is = understood _ _ (rw c.in-Ok-Nothing.field-0-is at c.in-Ok-Nothing.ensures); told = (refl, refl) }
-    }
+  answer = [];
+  written = Appends-nil (g.W.Write.contents c.args.out.now);
+  told = record { taken = Ok nothing; is = understood _ _ (rw c.in-Ok-Nothing.field-0-is at c.in-Ok-Nothing.ensures); told = (refl, refl) };
+}
 
 pub returns-in-Ok-Answer : goal.returns-in-Ok-Answer
 returns-in-Ok-Answer g c = record {
-      answer = line_of (text_of c.in-Ok-Answer.answer);
-      written = search rules;
-      told = record { taken = Ok (answered c.in-Ok-Answer.answer); is = understood _ _ (rw c.in-Ok-Answer.field-0-is at c.in-Ok-Answer.ensures); told = (refl, refl) }
-    }
+  answer = line_of (text_of c.in-Ok-Answer.answer);
+  written = search rules;
+  told = record { taken = Ok (answered c.in-Ok-Answer.answer); is = understood _ _ (rw c.in-Ok-Answer.field-0-is at c.in-Ok-Answer.ensures); told = (refl, refl) };
+}
 
 pub returns-in-Ok-Member : goal.returns-in-Ok-Member
 returns-in-Ok-Member g c =

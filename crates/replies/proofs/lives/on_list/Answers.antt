@@ -16,17 +16,17 @@ unfolding sorted
 returns-clause-life g c =
     let lent = c.lend-member.ensures in
     let begun : Fresh asks_of c.args.admitted c.lend-member.result = record {
-          values = lent.values;
-          term_length = lent.fixed.0;
-          epoch = lent.fixed.1;
-          verifier = lent.fixed.2;
-          seats = lent.fixed.3;
-          board = ap asks_of lent.board ∙ ap (λ list. sorted list) c.new-3.ensures;
-          effects = lent.empty;
-          queue = lent.queue;
-          memory = lent.fits c.in_ok-places.ensures;
-          list = lent.places c.in_ok-places.ensures
-        } in
+      values = lent.values;
+      term_length = lent.fixed.0;
+      epoch = lent.fixed.1;
+      verifier = lent.fixed.2;
+      seats = lent.fixed.3;
+      board = ap asks_of lent.board ∙ ap (λ list. sorted list) c.new-3.ensures;
+      effects = lent.empty;
+      queue = lent.queue;
+      memory = lent.fits c.in_ok-places.ensures;
+      list = lent.places c.in_ok-places.ensures;
+    } in
     says_more c.with_member.result
     (λ next. Talk g.A.Asker.given g.A.Asker.taken (AnsweredBy asks_of) c.args.asker.now c.lend-member.result next c.with_member.new.asker c.with_member.new.member)
     (λ next. Life g.A.Asker.given g.A.Asker.taken asks_of c.args.admitted c.args.asker.now next c.with_member.new.asker)

@@ -17,17 +17,17 @@ unfolding sorted
 returns-clause-life g c =
     let lent = c.lend-member.ensures in
     let begun : Fresh open_asks c.args.admitted c.lend-member.result = record {
-          values = lent.values;
-          term_length = lent.fixed.0;
-          epoch = lent.fixed.1;
-          verifier = lent.fixed.2;
-          seats = lent.fixed.3;
-          board = ap open_asks lent.board ∙ ap (λ rows. sorted (asks_in rows)) c.new-3.ensures;
-          effects = lent.empty;
-          queue = lent.queue;
-          memory = lent.fits c.in_ok-places.ensures;
-          list = lent.places c.in_ok-places.ensures
-        } in
+      values = lent.values;
+      term_length = lent.fixed.0;
+      epoch = lent.fixed.1;
+      verifier = lent.fixed.2;
+      seats = lent.fixed.3;
+      board = ap open_asks lent.board ∙ ap (λ rows. sorted (asks_in rows)) c.new-3.ensures;
+      effects = lent.empty;
+      queue = lent.queue;
+      memory = lent.fits c.in_ok-places.ensures;
+      list = lent.places c.in_ok-places.ensures;
+    } in
     says_more c.with_member.result
     (λ next. Talk g.A.Asker.given g.A.Asker.taken (AnsweredBy open_asks) c.args.asker.now c.lend-member.result next c.with_member.new.asker c.with_member.new.member)
     (λ next. Life g.A.Asker.given g.A.Asker.taken open_asks c.args.admitted c.args.asker.now next c.with_member.new.asker)

@@ -1,0 +1,4 @@
+pub mod Cuts
+pub mod Entries
+pub mod Replays
+pub mod Tallies

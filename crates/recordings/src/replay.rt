@@ -1,0 +1,76 @@
+ghost use Rattle.std.specs.Prelude.{◌≡◌, true, [], ◌∷◌, ◌++◌, length, drop, IfOk};
+ghost use Rattle.std.specs.Io.KnownBytes.{Appends};
+ghost use Rattle.recordings.specs.Entries.{Begun};
+ghost use Rattle.recordings.specs.Replays.{Given, Compared};
+ghost use Rattle.recordings.specs.Tallies.{agreed, tally_text};
+
+use crate::comparing::tell;
+use crate::{Entry, Recording, Tally};
+use replies::Asker;
+use std::io;
+use std::io::Write;
+
+/// A file whose commands are answered again: what is left of it, the answer that was recorded to the command given last,
+/// where differences are told, and how many there were.
+#[derive(Drop)]
+pub struct Replay<'a, W: Drop> {
+    recording: Recording<'a>,
+    recorded: &'a [u8],
+    out: W,
+    tally: Tally,
+}
+
+impl<'a, W: Write + Drop> Replay<'a, W> {
+    /// A whole file, with nothing compared.
+    pub fn new(file: &'a [u8], out: W) -> Replay<'a, W>
+        ensures recording { Begun file.now result.recording }
+        ensures recorded { result.recorded.now ≡ [] }
+        ensures out { result.out ≡ out }
+        ensures tally { result.tally ≡ record { commands = 0; different = 0; clean = true } }
+    {
+        Replay {
+            recording: Recording::new(file),
+            recorded: b"",
+            out,
+            tally: Tally::new(),
+        }
+    }
+
+    /// Tells what was counted, and answers whether all was as recorded.
+    pub fn finish(&mut self) -> io::Result<bool>
+        ensures { IfOk result (λ same. (same ≡ agreed self.old.tally) × Appends (W.Write.contents self.old.out) (W.Write.contents self.new.out) (tally_text self.old.tally ++ 10 ∷ [])) }
+    {
+        let tally = self.tally;
+        writeln!(self.out, "{tally}")?;
+        self.out.flush()?;
+        Ok(tally.agrees())
+    }
+}
+
+impl<'a, W: Write + Drop> Asker<'a> for Replay<'a, W> {
+    ghost given = { λ s r t. Given s r t };
+
+    ghost taken = { λ s line answer command t. Compared W.Write.contents s line answer command t };
+
+    ghost left = { λ s. length s.recording.rest.now };
+
+    fn next(&mut self) -> Option<(u64, &'a [u8])> {
+        let Entry {
+            line,
+            command,
+            answer,
+        } = self.recording.next()?;
+        self.recorded = answer;
+        Some((line, command))
+    }
+
+    fn take(&mut self, line: u64, answer: &[u8], command: bool) -> io::Result<()> {
+        let same = answer == self.recorded;
+        self.tally = self.tally.with(same, command);
+        if same {
+            Ok(())
+        } else {
+            tell(&mut self.out, line, answer)
+        }
+    }
+}
