@@ -1,5 +1,5 @@
 -- The commands of a file, each with its recorded answer.
-use Rattle.std.specs.Prelude.{◌≡◌, ℕ, ◌+◌, true, false, List, take, drop, Option, Some, None}
+use Rattle.std.specs.Prelude.{◌≡◌, ℕ, ◌+◌, ◌<◌, true, false, List, length, take, drop, Option, Some, None}
 use Rattle.recordings.specs.Cuts.{marked, Passed}
 use Rattle.recordings.specs.declared.recording.Entry.{Entry}
 use Rattle.recordings.specs.declared.recording.Recording.{Recording}
@@ -26,6 +26,7 @@ pub record Cut (s : Recording) (e : Entry) (t : Recording) : Type 0 where
   pub answer : e.answer.now ≡ take bytes (after_line (drop 2 s.rest.now))
   pub rest : t.rest.now ≡ drop bytes (after_line (drop 2 s.rest.now))
   pub number : t.number ≡ s.number + 1 + lines
+  pub fewer : length t.rest.now < length s.rest.now
 
 abbrev pub Gives : Recording → Option Entry → Recording → Type 0
 Gives s (Some e) t = Cut s e t

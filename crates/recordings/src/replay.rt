@@ -38,7 +38,8 @@ impl<'a, W: Write + Drop> Replay<'a, W> {
 
     /// Tells what was counted, and answers whether all was as recorded.
     pub fn finish(&mut self) -> io::Result<bool>
-        ensures { IfOk result (λ same. (same ≡ agreed self.old.tally) × Appends (W.Write.contents self.old.out) (W.Write.contents self.new.out) (tally_text self.old.tally ++ 10 ∷ [])) }
+        ensures others { (self.new.recording ≡ self.old.recording) × (self.new.recorded ≡ self.old.recorded) × (self.new.tally ≡ self.old.tally) }
+        ensures told { IfOk result (λ same. (same ≡ agreed self.old.tally) × Appends (W.Write.contents self.old.out) (W.Write.contents self.new.out) (tally_text self.old.tally ++ 10 ∷ [])) }
     {
         let tally = self.tally;
         writeln!(self.out, "{tally}")?;

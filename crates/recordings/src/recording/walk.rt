@@ -1,4 +1,5 @@
-ghost use Rattle.std.specs.Prelude.{◌<◌, ◌≤◌, length, MatchOption};
+ghost use Rattle.std.specs.Prelude.{length};
+ghost use Rattle.std.specs.Iterator.{at_most};
 ghost use Rattle.recordings.specs.Entries.{Begun, Gives};
 
 use crate::cutting::{MARK, before_command};
@@ -16,12 +17,17 @@ impl<'a> Recording<'a> {
             number: lines,
         }
     }
+}
+
+impl<'a> Iterator for Recording<'a> {
+    type Item = Entry<'a>;
+
+    ghost next_gives = { Gives };
+
+    ghost remaining = { λ s. at_most (length s.rest.now) };
 
     /// The next command, if one is left. Lines are counted from 1.
-    pub fn next(&mut self) -> Option<Entry<'a>>
-        ensures gives { Gives self.old result self.new }
-        ensures left { MatchOption result (length self.new.rest.now ≤ length self.old.rest.now) (λ _. length self.new.rest.now < length self.old.rest.now) }
-    {
+    fn next(&mut self) -> Option<Entry<'a>> {
         let text = strip(self.rest, MARK)?;
         let (command, after) = split_line(text);
         let (bytes, lines) = before_command(after);
