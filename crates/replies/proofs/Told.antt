@@ -14,6 +14,6 @@ not_understood meant p (inl h) = inl (ap Err h)
 not_understood meant p (inr h) = inr (sym h)
 
 -- what was written says more
-pub says_more : {E : Type 0} (r : Result Turn E) (u v : Option (List ℕ)) (P Q : Turn → List ℕ → Type 0) → ((t : Turn) (answer : List ℕ) → P t answer → Q t answer) → IfOk r (λ t. Wrote u v (P t)) → IfOk r (λ t. Wrote u v (Q t))
-says_more (Ok t) u v P Q more wrote = record { answer = wrote.answer; written = wrote.written; told = more t wrote.answer wrote.told }
-says_more (Err e) u v P Q more wrote = wrote
+pub wrote_more : {E : Type 0} (r : Result Turn E) (u v : Option (List ℕ)) (P Q : Turn → List ℕ → Type 0) → ((t : Turn) (answer : List ℕ) → P t answer → Q t answer) → IfOk r (λ t. Wrote u v (P t)) → IfOk r (λ t. Wrote u v (Q t))
+wrote_more (Ok t) u v P Q more wrote = record { answer = wrote.answer; written = wrote.written; told = more t wrote.answer wrote.told }
+wrote_more (Err e) u v P Q more wrote = wrote

@@ -3,7 +3,7 @@ use Rattle.std.proofs.KnownBytes.{Appends-nil}
 use Rattle.one_member.specs.Texts.{answer_text}
 use Rattle.orders.specs.Orders.{meant}
 use Rattle.replies.specs.Replies.{Making, Mistaken, AnsweredBy, line_of}
-use Rattle.replies.proofs.Told.{understood, not_understood, says_more}
+use Rattle.replies.proofs.Told.{understood, not_understood, wrote_more}
 use Rattle.replies.proofs.answering.answer.Goals as goal
 use Rattle.script.specs.Answers.{text_of}
 use Rattle.script.specs.Lines.{nothing, answered, making, ordered, draining}
@@ -24,7 +24,7 @@ returns-in_ok-writeln-in-Ok-Answer g c = record {
 
 pub returns-in-Ok-Member : goal.returns-in-Ok-Member
 returns-in-Ok-Member g c =
-    says_more c.make.result (g.W.Write.contents c.args.out.now) (g.W.Write.contents c.make.new.out) (Making c.in-Ok-Member.setup) (λ t answer. AnsweredBy g.B.Board.asks c.args.line c.args.text.now t c.args.member.now c.args.member.now answer)
+    wrote_more c.make.result (g.W.Write.contents c.args.out.now) (g.W.Write.contents c.make.new.out) (Making c.in-Ok-Member.setup) (λ t answer. AnsweredBy g.B.Board.asks c.args.line c.args.text.now t c.args.member.now c.args.member.now answer)
     (λ t answer made. record { taken = Ok (making c.in-Ok-Member.setup); is = understood _ _ (rw (c.defaults.ensures, c.in-Ok-Member.field-0-is) at c.in-Ok-Member.ensures); told = (made, refl) })
     c.make.ensures
 
@@ -46,6 +46,6 @@ returns-in_ok-drain-in-Ok-Drain g c =
 
 pub returns-in-Err : goal.returns-in-Err
 returns-in-Err g c =
-    says_more c.complain.result (g.W.Write.contents c.args.out.now) (g.W.Write.contents c.complain.new.out) (Mistaken c.args.line c.in-Err.problem) (λ t answer. AnsweredBy g.B.Board.asks c.args.line c.args.text.now t c.args.member.now c.args.member.now answer)
+    wrote_more c.complain.result (g.W.Write.contents c.args.out.now) (g.W.Write.contents c.complain.new.out) (Mistaken c.args.line c.in-Err.problem) (λ t answer. AnsweredBy g.B.Board.asks c.args.line c.args.text.now t c.args.member.now c.args.member.now answer)
     (λ t answer told. record { taken = Err c.in-Err.problem; is = not_understood _ _ (rw c.defaults.ensures at c.in-Err.ensures); told = (told, refl) })
     c.complain.ensures
