@@ -42,7 +42,10 @@ fn drop_empty(rows: &mut [Row], len: usize) -> usize
     for i in 0..len {
         let row = rows[i];
         if !row.is_empty() {
-            rows[kept] = row;
+            // Mostly none goes, and then none is moved.
+            if kept != i {
+                rows[kept] = row;
+            }
             kept += 1;
         }
     }
