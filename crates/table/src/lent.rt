@@ -2,7 +2,8 @@ ghost use Rattle.std.specs.Prelude.{◌≡◌, ◌<◌, ◌≤◌, [], length, t
 ghost use Rattle.table.specs.Rows.{Ascending, lookup, holds, highest, without, with_row, has_room, kept, Parts, Here, Gap};
 ghost use Rattle.table.specs.Laws.{NothingFound, OfItsView, FoundItself, Nearest, OneMore, Counted, OneLess, OnlyKept, NoMore};
 
-use crate::{Order, Past};
+use crate::searching::first_kept;
+use crate::{From, Order, Past};
 use views::{View, Viewable};
 
 /// Rows in ascending order of their views, in a slice that the host lends. Places past the rows are free.
@@ -48,16 +49,18 @@ impl<'a, R: Copy + Viewable> Table<'a, R> {
     fn first_kept<O: Order>(&self, order: &O) -> usize
         ensures { Parts R.Viewable.viewed (O.Order.keeping order.now) (entries self.now) result }
     {
-        self.as_slice()
-            .partition_point(|row| !order.keeps(row.view()))
+        first_kept(self.as_slice(), order)
     }
 
     /// Where the row of `view` stands, or else where it would.
     fn find(&self, view: View) -> Result<usize, usize>
         ensures { MatchResult result (Here R.Viewable.viewed view (entries self.now)) (Gap R.Viewable.viewed view (entries self.now)) }
     {
-        self.as_slice()
-            .binary_search_by_key(&view, |row| row.view())
+        let at = self.first_kept(&From(view));
+        match self.as_slice().get(at) {
+            Some(row) if row.view() == view => Ok(at),
+            _ => Err(at),
+        }
     }
 
     /// The row of `view`, if there is one.

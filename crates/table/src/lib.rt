@@ -4,6 +4,7 @@
 pub mod lent;
 pub mod mark;
 pub mod order;
+mod searching;
 
 pub use lent::Table;
 pub use mark::Mark;

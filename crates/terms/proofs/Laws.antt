@@ -1,7 +1,8 @@
 -- The laws of terms, for every length above 0.
-use Rattle.std.proofs.Common.{◌≡◌, ℕ, ◌+◌, ◌-◌, ◌*◌, ◌/◌, ◌<◌, ◌≤◌, eqb, leb, sym, refl, ap, ◌∙◌, inl, inr, mod-lt, add-mul, one-mul, div-add-mod', zero-mul, arith}
+use Rattle.std.proofs.Common.{◌≡◌, ℕ, ◌+◌, ◌-◌, ◌*◌, ◌/◌, ◌<◌, ◌≤◌, ◌&&◌, eqb, leb, sym, refl, ap, ◌∙◌, inl, inr, mod-lt, add-mul, one-mul, div-add-mod', zero-mul, arith}
 use native.Mathlib.Nat.{div-eq_of_lt-le}
 use Rattle.std.proofs.lemmas.Bool.{eq-eqb, ne_eqb, eqb-true, le-leb, leb-true, and_parts, and_from, cases_eq, cases_lt, cond-false}
+use Rattle.std.proofs.lemmas.Bool.Decides.{same_from_decides}
 use Rattle.terms.specs.Terms.{start, end, next, is_start, same_term, covering}
 use Rattle.terms.specs.Laws.{OwnTerm, Rising, WholeTerm, SameStart, ToTheEnd, CoversBetween, LeastNext, StartCovered, StartsItself, EndsPast, CoversOn}
 
@@ -179,6 +180,13 @@ module _ (L : ℕ) (positive : 0 < L) where
       let same = between w v low (omega (arith, own_term w)) in
       let back = leb-true (start L v) u ((ends_past u v).1 p.1) in
       (to_the_end u w).1 (omega arith, (ends_past u w).0 (le-leb (start L w) u (omega arith)))
+
+  -- it is told by one of the two starts
+  pub covers_from_start : (u v : ℕ) → covering L u v ≡ (leb u v && leb (start L v) u)
+  covers_from_start u v = same_from_decides (covering L u v) (leb u v && leb (start L v) u) (to_the_end u v) (
+    λ t. let p = and_parts (leb u v) (leb (start L v) u) t in (leb-true u v p.0, (ends_past u v).0 p.1),
+    λ p. and_from (leb u v) (leb (start L v) u) (le-leb u v p.0) ((ends_past u v).1 p.1),
+  )
 
 -- what `term_start` promises of every view
 pub ruleset starts = (own_start, own_end, start_rises, end_rises, ends_past)

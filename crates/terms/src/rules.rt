@@ -83,13 +83,14 @@ impl TermLength {
     }
 
     /// Whether a nullification at `nullified` covers `view`: it covers its own view and the rest of that term.
-    #[tactic(auto, using(crate::proofs::Laws::to_the_end), unfolding(crate::specs::Terms::covering))]
+    #[tactic(auto, using(crate::proofs::Laws::to_the_end, crate::proofs::Laws::covers_from_start))]
     pub const fn covers(self, nullified: View, view: View) -> bool
         ensures value { result ≡ covering (views self) nullified view }
         ensures to_the_end { ToTheEnd (views self) }
         ensures covers_between { CoversBetween (views self) }
         ensures covers_on { CoversOn (views self) }
     {
-        nullified <= view && self.same_term(nullified, view)
+        // What is not above the view and not below its term's start lies in its term.
+        nullified <= view && self.term_start(view) <= nullified
     }
 }
