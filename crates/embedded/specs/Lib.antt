@@ -1,0 +1,3 @@
+pub mod Records
+pub mod Terms
+pub mod Told
