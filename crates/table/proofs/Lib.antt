@@ -1,3 +1,4 @@
+pub mod Adjacent
 pub mod Laws
 pub mod Placing
 pub mod Rising

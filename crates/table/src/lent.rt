@@ -1,7 +1,8 @@
 ghost use Rattle.std.specs.Prelude.{◌≡◌, ◌<◌, ◌≤◌, [], length, take, if◌then◌else◌, MatchOption, MatchResult, slice_index_or};
-ghost use Rattle.table.specs.Rows.{Ascending, lookup, holds, highest, without, with_row, has_room, kept, Parts, Here, Gap};
+ghost use Rattle.table.specs.Rows.{Ascending, Resumable, lookup, holds, highest, without, with_row, has_room, kept, Parts, Here, Gap};
 ghost use Rattle.table.specs.Laws.{NothingFound, OfItsView, FoundItself, Nearest, OneMore, Counted, OneLess, OnlyKept, NoMore};
 
+use crate::ascending::rises;
 use crate::{Order, Past};
 use views::{View, Viewable};
 
@@ -25,6 +26,16 @@ impl<'a, R: Copy + Viewable> Table<'a, R> {
         ensures nothing_found { NothingFound R.Viewable.viewed (entries result) }
     {
         Table { rows, len: 0 }
+    }
+
+    /// The table of the first `len` rows of a slice, exactly if there are so many and their views rise.
+    pub fn resume(rows: &'a mut [R], len: usize) -> Option<Table<'a, R>>
+        ensures { MatchOption result (Resumable R.Viewable.viewed len rows.old → ⊥) (λ t. Resumable R.Viewable.viewed len rows.old × (entries t ≡ take len rows.old) × (capacity t ≡ length rows.old)) }
+    {
+        if len > rows.len() || !rises(&rows[..len]) {
+            return None;
+        }
+        Some(Table { rows, len })
     }
 
     /// How many rows there are.
