@@ -1,7 +1,6 @@
 pub mod Answers
 pub mod Calls
 pub mod Faults
-pub mod Lawful
 pub mod Laws
 pub mod Serving
 pub mod Settled
