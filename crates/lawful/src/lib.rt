@@ -1,8 +1,8 @@
-//! Whether what a store holds is what calls of a member may leave.
+//! Whether a store has places enough, and holds what calls of a member may leave.
 #![tactic(auto)]
 
 ghost use Rattle.std.specs.Prelude.{◌≡◌, ℕ, ◌^◌, ◌<◌, ◌≤◌, true, Decides};
-ghost use Rattle.store.specs.Ready.{length_of};
+ghost use Rattle.store.specs.Ready.{length_of, Roomy};
 ghost use Rattle.store.specs.Values.{values, finalized, is_nullified};
 ghost use Rattle.table.specs.Rows.{holds};
 ghost use Rattle.table.specs.Tables.{entries};
@@ -20,6 +20,17 @@ pub const ROWS: usize = 128;
 
 /// How many gaps may stand after replay.
 pub const GAPS: usize = 128;
+
+/// Whether each table has places enough, and there is one for a finalization.
+pub fn is_roomy<R: Copy + Viewable>(store: &Store<R>) -> bool
+    ensures { Decides result (Roomy store.now) }
+{
+    store.finalization.places() > 0
+        && store.nullifications.capacity() >= ROWS
+        && store.pending_notarizations.capacity() >= ROWS
+        && store.certified_notarizations.capacity() >= ROWS
+        && store.uncertifiable_notarizations.capacity() >= ROWS
+}
 
 /// Whether no table has more rows than it may.
 fn are_few<R: Copy + Viewable>(store: &Store<R>) -> bool

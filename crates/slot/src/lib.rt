@@ -31,6 +31,21 @@ impl<'a, T> Slot<'a, T> {
         Slot { place, full }
     }
 
+    /// Takes off what it holds.
+    pub fn clear(&mut self)
+        ensures empty { held self.new ≡ None }
+        ensures places { places self.new ≡ places self.old }
+    {
+        self.full = false;
+    }
+
+    /// How many places the host lent.
+    pub fn places(&self) -> usize
+        ensures { result ≡ places self.now }
+    {
+        self.place.len()
+    }
+
     /// What it holds, where it stands.
     pub fn peek(&self) -> Option<&T>
         ensures { option_copied result ≡ held self.now }

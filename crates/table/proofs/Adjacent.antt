@@ -16,9 +16,9 @@ module _ {R : Type 0} (at : R → ℕ) (rs : List R) (i : ℕ) (x y : R) (low : 
       elim (cases_eq b i) [
         | inr other ↦ inv a b lt (omega arith)
         | inl same ↦ rw same (elim (cases_eq a (i - 1)) [
-            | inl next ↦ rw next (omega (arith, before, here))
-            | inr lower ↦ let up = inv a (i - 1) (omega arith) (omega arith) in omega (arith, before, here)
-          ])
+          | inl next ↦ rw next (omega (arith, before, here))
+          | inr lower ↦ let up = inv a (i - 1) (omega arith) (omega arith) in omega (arith, before, here)
+        ])
       ]
 
   pub no_more : at y ≤ at x → Ascending at rs → ⊥

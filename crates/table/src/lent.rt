@@ -1,4 +1,4 @@
-ghost use Rattle.std.specs.Prelude.{◌≡◌, ◌<◌, ◌≤◌, [], length, take, if◌then◌else◌, MatchOption, MatchResult, slice_index_or};
+ghost use Rattle.std.specs.Prelude.{◌≡◌, ◌<◌, ◌≤◌, [], length, take, if◌then◌else◌, Decides, MatchOption, MatchResult, slice_index_or};
 ghost use Rattle.table.specs.Rows.{Ascending, Resumable, lookup, holds, highest, without, with_row, has_room, kept, Parts, Here, Gap};
 ghost use Rattle.table.specs.Laws.{NothingFound, OfItsView, FoundItself, Nearest, OneMore, Counted, OneLess, OnlyKept, NoMore};
 
@@ -32,10 +32,25 @@ impl<'a, R: Copy + Viewable> Table<'a, R> {
     pub fn resume(rows: &'a mut [R], len: usize) -> Option<Table<'a, R>>
         ensures { MatchOption result (Resumable R.Viewable.viewed len rows.old → ⊥) (λ t. Resumable R.Viewable.viewed len rows.old × (entries t ≡ take len rows.old) × (capacity t ≡ length rows.old)) }
     {
-        if len > rows.len() || !rises(&rows[..len]) {
+        if !Table::resumes(rows, len) {
             return None;
         }
         Some(Table { rows, len })
+    }
+
+    /// Whether a slice has so many rows, and their views rise.
+    pub fn resumes(rows: &[R], len: usize) -> bool
+        ensures { Decides result (Resumable R.Viewable.viewed len rows.now) }
+    {
+        len <= rows.len() && rises(&rows[..len])
+    }
+
+    /// Takes all rows off the table.
+    pub fn clear(&mut self)
+        ensures rows { entries self.new ≡ [] }
+        ensures cap { capacity self.new ≡ capacity self.old }
+    {
+        self.len = 0;
     }
 
     /// How many rows there are.
@@ -45,6 +60,13 @@ impl<'a, R: Copy + Viewable> Table<'a, R> {
         ensures first { take result self.now.rows.now ≡ entries self.now }
     {
         self.as_slice().len()
+    }
+
+    /// How many rows there may be.
+    pub fn capacity(&self) -> usize
+        ensures { result ≡ capacity self.now }
+    {
+        self.rows.len()
     }
 
     /// The rows, in ascending order of their views.

@@ -1,0 +1,3 @@
+pub mod Keeping
+pub mod Members
+pub mod Opening
