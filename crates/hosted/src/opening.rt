@@ -1,14 +1,18 @@
-ghost use Rattle.std.specs.Prelude.{◌≡◌, false, Decides, MatchBool};
+ghost use Rattle.std.specs.Prelude.{◌≡◌, false, take, Decides, MatchBool};
+ghost use Rattle.kept.specs.Keeping.{view_in};
 ghost use Rattle.state.specs.States.{held, term, epoch_of, fits as suits};
+ghost use Rattle.store.specs.Ready.{length_of, Roomy};
+ghost use Rattle.store.specs.Values.{mark_view, values};
+ghost use Rattle.table.specs.Rows.{Resumable};
+ghost use Rattle.table.specs.Tables.{entries, capacity};
 ghost use Rattle.hosted.specs.Members.{Rowed, Sound, values_in};
-ghost use Rattle.hosted.specs.Opening.{StoredAs};
 
 use crate::{Head, Rows};
 use kept::Kept;
 use slot::Slot;
-use state::State;
+use state::{ROWS, State};
 use store::{Memory, Store};
-use table::Table;
+use table::{Mark, Table};
 use terms::TermLength;
 
 /// Whether the numbers of a member are not too high for what they count, and the views of its rows rise.
@@ -24,10 +28,30 @@ fn is_rowed(head: &Head, rows: &Rows) -> bool
         && Table::resumes(&rows.failed, head.failed_count as usize)
 }
 
+/// The table of the first records.
+fn records(rows: &mut [Kept; ROWS], len: u32) -> Table<'_, Kept>
+    requires { Resumable view_in len rows.old }
+    ensures rows { entries result ≡ take len rows.old }
+    ensures cap { capacity result ≡ 128 }
+{
+    Table::resume(rows.as_mut_slice(), len as usize).unwrap()
+}
+
+/// The table of the first marks.
+fn marks(rows: &mut [Mark; ROWS], len: u32) -> Table<'_, Mark>
+    requires { Resumable mark_view len rows.old }
+    ensures rows { entries result ≡ take len rows.old }
+    ensures cap { capacity result ≡ 128 }
+{
+    Table::resume(rows.as_mut_slice(), len as usize).unwrap()
+}
+
 /// The store that numbers and rows hold.
 fn store<'a>(head: &Head, rows: &'a mut Rows) -> Store<'a, Kept>
     requires { Rowed head.now rows.old }
-    ensures { StoredAs head.now rows.old result }
+    ensures values { values result ≡ values_in head.now rows.old }
+    ensures fixed { (length_of result ≡ head.now.term_length) × (result.epoch ≡ head.now.epoch) }
+    ensures roomy { Roomy result }
 {
     Store {
         term_length: TermLength::new(head.term_length).unwrap(),
@@ -40,23 +64,10 @@ fn store<'a>(head: &Head, rows: &'a mut Rows) -> Store<'a, Kept>
             rows.finalization.as_mut_slice(),
             head.finalization_count == 1,
         ),
-        nullifications: Table::resume(
-            rows.nullifications.as_mut_slice(),
-            head.nullification_count as usize,
-        )
-        .unwrap(),
-        pending_notarizations: Table::resume(
-            rows.pending.as_mut_slice(),
-            head.pending_count as usize,
-        ).unwrap(),
-        certified_notarizations: Table::resume(
-            rows.certified.as_mut_slice(),
-            head.certified_count as usize,
-        ).unwrap(),
-        uncertifiable_notarizations: Table::resume(
-            rows.failed.as_mut_slice(),
-            head.failed_count as usize,
-        ).unwrap(),
+        nullifications: records(&mut rows.nullifications, head.nullification_count),
+        pending_notarizations: marks(&mut rows.pending, head.pending_count),
+        certified_notarizations: records(&mut rows.certified, head.certified_count),
+        uncertifiable_notarizations: marks(&mut rows.failed, head.failed_count),
     }
 }
 
@@ -64,12 +75,17 @@ fn store<'a>(head: &Head, rows: &'a mut Rows) -> Store<'a, Kept>
 fn unfit(rows: &mut Rows) -> State<'_, Kept>
     ensures { suits result ≡ false }
 {
+    let finalization = rows.finalization.as_mut_slice();
+    let nullifications = rows.nullifications.as_mut_slice();
+    let pending = rows.pending.as_mut_slice();
+    let certified = rows.certified.as_mut_slice();
+    let failed = rows.failed.as_mut_slice();
     let memory = Memory {
-        finalization: &mut rows.finalization[..0],
-        nullifications: &mut rows.nullifications[..0],
-        pending_notarizations: &mut rows.pending[..0],
-        certified_notarizations: &mut rows.certified[..0],
-        uncertifiable_notarizations: &mut rows.failed[..0],
+        finalization: &mut finalization[..0],
+        nullifications: &mut nullifications[..0],
+        pending_notarizations: &mut pending[..0],
+        certified_notarizations: &mut certified[..0],
+        uncertifiable_notarizations: &mut failed[..0],
     };
     State::new(TermLength::new(1).unwrap(), 0, memory)
 }
