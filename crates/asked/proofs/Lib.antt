@@ -1,0 +1,2 @@
+pub mod Last
+pub mod Steps
