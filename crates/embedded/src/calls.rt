@@ -19,7 +19,7 @@ use row_board::{Row, RowBoard};
 use state::EFFECTS;
 
 /// Writes what a call left into the memory of a member, and its effects into a list.
-fn write(
+pub(crate) fn write(
     resolver: &Resolver<Kept>,
     board: &RowBoard,
     effects: &Effects,

@@ -3,7 +3,9 @@
 
 pub mod answer;
 pub mod asking;
+pub mod beginning;
 pub mod calls;
+pub mod delivering;
 pub mod records;
 pub mod terms_of;
 pub mod told;
