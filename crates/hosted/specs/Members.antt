@@ -1,5 +1,5 @@
 -- What the numbers and rows of a member say.
-use Rattle.std.specs.Prelude.{◌≡◌, ℕ, ◌<◌, ◌≤◌, cond, take, None, ◌==◌}
+use Rattle.std.specs.Prelude.{◌<◌, ◌≤◌, cond, take, None, ◌==◌}
 use Rattle.kept.specs.Keeping.{view_in}
 use Rattle.kept.specs.declared.row.Kept.{Kept}
 use Rattle.slot.specs.Slots.{first_of}

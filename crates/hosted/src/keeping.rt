@@ -1,6 +1,7 @@
 ghost use Rattle.std.specs.Prelude.{◌≡◌, ◌≤◌, length};
-ghost use Rattle.state.specs.States.{held};
+ghost use Rattle.state.specs.States.{held, term};
 ghost use Rattle.hosted.specs.Keeping.{head_of, if_some, over, rows_of};
+ghost use Rattle.hosted.specs.Members.{Sound, values_in};
 
 use crate::{Head, Rows};
 use kept::Kept;
@@ -58,10 +59,12 @@ fn keep_rows(state: &State<Kept>, rows: &mut Rows)
     put_marks(state.uncertifiable_notarizations(), &mut rows.failed);
 }
 
-/// Writes what a state holds into a member.
+/// Writes what a state holds into a member. It says the same then, and is sound.
 pub fn keep(state: &State<Kept>, head: &mut Head, rows: &mut Rows)
     ensures head { head.new ≡ head_of (held state.now) head.old }
     ensures rows { rows.new ≡ rows_of (held state.now) rows.old }
+    ensures values { values_in head.new rows.new ≡ held state.now }
+    ensures sound { term state.now ≡ head.old.term_length → Sound head.new rows.new }
 {
     keep_head(state, head);
     keep_rows(state, rows);
