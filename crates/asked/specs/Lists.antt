@@ -1,10 +1,12 @@
 -- The open asks that rows say: in order, each once, and not too many.
-use Rattle.std.specs.Prelude.{Bool, cond, ◌&&◌, List, [], ◌∷◌, ◌++◌, length, is_none, Some, None, Option, nat_lt}
+use Rattle.std.specs.Prelude.{◌≡◌, ◌≤◌, Bool, cond, ◌&&◌, List, [], ◌∷◌, ◌++◌, map, length, is_none, Some, None, Option, nat_lt}
+use Rattle.std.specs.List.{AllByRecursion}
 use Rattle.board.specs.Asks.{is_background}
 use Rattle.board.specs.Boards.{backgrounds, ancestries, first_from}
+use Rattle.board.specs.Sorting.{Rises}
 use Rattle.board.specs.declared.open.Open.{Open}
 use Rattle.asked.specs.declared.row.Asked.{Asked}
-use Rattle.asked.specs.Rows.{open_of}
+use Rattle.asked.specs.Rows.{Fitting, open_of, row_of}
 
 -- it comes behind all others, and there are fewer of its sort than may be
 abbrev pub comes_last : Open → List Open → Bool
@@ -27,3 +29,7 @@ appended os rs = appending (Some os) rs
 -- the asks that rows say, if they do
 abbrev pub asks_in : List Asked → Option (List Open)
 asks_in rs = appended [] rs
+
+-- asks in order, and not too many, are read back from their rows
+abbrev pub ReadsBack : Type 0
+ReadsBack = (os : List Open) → Rises os → AllByRecursion Fitting os → length (backgrounds os) ≤ 256 → length (ancestries os) ≤ 64 → asks_in (map row_of os) ≡ Some os
