@@ -23,6 +23,8 @@ pub record Same (m m' : Member) (e e' : Listed) : Type 0 where
 -- a call left these values and had these effects, and the open asks follow
 pub record Went (m m' : Member) (e e' : Listed) (s : Values) (fs : List Effect) : Type 0 where
   pub member : m' ≡ kept_as s (shown (applied fs (asks_of m))) m
+  pub values : values_of m' ≡ s
+  pub asks : asks_of m' ≡ shown (applied fs (asks_of m))
   pub effects : e' ≡ listed_as fs e
 
 -- whether a flag is set

@@ -81,6 +81,7 @@ pub extern "C" fn resolver_resolve(
     ensures unknown { Sound member.old → kind_of number ≡ Missing → (result ≡ unknown) × (member.new ≡ member.old) }
     ensures answer { (k : Ask) → Sound member.old → kind_of number ≡ Found k → result ≡ answered (λ b. done (cond b 1 0) false) (request_told member.old proposal view k) }
     ensures outcome { (k : Ask) → Sound member.old → kind_of number ≡ Found k → MatchResult (request_told member.old proposal view k) (λ asked. Requested asked view k (target_of targeted target) member.old member.new) (λ _. member.new ≡ member.old) }
+    ensures sound { Sound member.old → Sound member.new }
 {
     let mut work = *member;
     let mut places = [Row::new(0); PLACES];

@@ -1,5 +1,8 @@
-ghost use Rattle.std.specs.Prelude.{◌≡◌, ◌<◌, true};
-ghost use Rattle.embedded.specs.Beginning.{begin_told, begun, began};
+ghost use Rattle.std.specs.Prelude.{◌≡◌, false, []};
+ghost use Rattle.store.specs.Fresh.{fresh};
+ghost use Rattle.driven.specs.Members.{Sound, asks_of, values_of};
+ghost use Rattle.embedded.specs.Answers.{done};
+ghost use Rattle.embedded.specs.Beginning.{begin_told, began};
 
 use crate::Answer;
 use driven::Member;
@@ -19,6 +22,7 @@ pub extern "C" fn resolver_begin(
 ) -> Answer
     ensures answer { result ≡ begin_told term_length seats quorum }
     ensures member { member.new ≡ began term_length epoch seats quorum member.old }
+    ensures begun { result ≡ done 0 false → Sound member.new × (values_of member.new ≡ fresh) × (asks_of member.new ≡ []) }
 {
     if let Err(fault) = TermLength::new(term_length) {
         return Answer::refused(Refusal::from(fault));

@@ -65,6 +65,7 @@ pub extern "C" fn resolver_deliver(
     ensures unsound { (Sound member.old → ⊥) → (result ≡ unsound) × Same member.old member.new listed.old listed.new }
     ensures answer { Sound member.old → result ≡ answered (λ d. done (outcome_number d.outcome) d.taken) (delivery_told member.old view bits bytes.now) }
     ensures outcome { Sound member.old → MatchResult (delivery_told member.old view bits bytes.now) (λ d. DeliveredAs d.taken view bytes.now member.old member.new listed.old listed.new) (λ _. Same member.old member.new listed.old listed.new) }
+    ensures sound { Sound member.old → Sound member.new }
 {
     let mut work = *member;
     let mut places = [Row::new(0); PLACES];
@@ -94,12 +95,13 @@ pub extern "C" fn resolver_deliver(
     ) {
         Err(fault) => Answer::refused(Refusal::from(fault)),
         Ok(delivered) => {
-            if delivered.taken {
-                write(&resolver, &board, &effects, member, listed);
-            } else {
+            let answer = Answer::done(outcome_number(delivered.outcome), delivered.taken);
+            if !delivered.taken {
                 list(effects.as_slice(), listed);
+                return answer;
             }
-            Answer::done(outcome_number(delivered.outcome), delivered.taken)
+            write(&resolver, &board, &effects, member, listed);
+            answer
         }
     }
 }
