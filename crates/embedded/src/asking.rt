@@ -1,6 +1,7 @@
 ghost use Rattle.std.specs.Prelude.{◌≡◌, false, cond, is_some, Some as Found, None as Missing, MatchResult};
 ghost use Rattle.effects.specs.declared.effect.Kind.{Kind as Ask};
 ghost use Rattle.state.specs.Serving.{served, copied};
+ghost use Rattle.hosted.specs.Members.{Sound as StateSound};
 ghost use Rattle.driven.specs.Members.{Sound, values_of};
 ghost use Rattle.embedded.specs.Answers.{answered, done, unsound, unknown};
 ghost use Rattle.embedded.specs.Asking.{kind_of, request_told, Requested, settled_told, target_of};
@@ -9,6 +10,7 @@ use crate::Answer;
 use board::PLACES;
 use driven::{Driven, Member, keep, resume};
 use effects::Kind;
+use hosted::open;
 use kept::Kept;
 use refusals::Refusal;
 use row_board::Row;
@@ -24,46 +26,37 @@ fn kind(number: u32) -> Option<Kind>
     }
 }
 
-/// Whether an ask for a kind at a view is settled.
+/// Whether an ask for a kind at a view is settled. It goes by the state alone.
 #[unsafe(no_mangle)]
 pub extern "C" fn resolver_settled(member: &Member, view: u64, number: u32) -> Answer
-    ensures unsound { (Sound member.now → ⊥) → result ≡ unsound }
-    ensures answer { Sound member.now → result ≡ settled_told member.now view (kind_of number) }
+    ensures unsound { (StateSound member.now.head member.now.rows → ⊥) → result ≡ unsound }
+    ensures answer { StateSound member.now.head member.now.rows → result ≡ settled_told member.now view (kind_of number) }
 {
-    let mut work = *member;
-    let mut places = [Row::new(0); PLACES];
-    let Driven {
-        resolver,
-        sound,
-        ..
-    } = resume(&mut work, &mut places);
-    if !sound {
+    let mut rows = member.rows;
+    let state = open(&member.head, &mut rows);
+    if !state.is_fit() {
         return Answer::unsound();
     }
     let Some(kind) = kind(number) else {
         return Answer::unknown();
     };
-    Answer::done(u32::from(resolver.settled(view, kind)), false)
+    Answer::done(u32::from(state.settled(view, kind)), false)
 }
 
-/// Copies the record that is served for a view into a place, and answers whether there is one.
+/// Copies the record that is served for a view into a place, and answers whether there is one. It goes by the state
+/// alone.
 #[unsafe(no_mangle)]
 pub extern "C" fn resolver_produce(member: &Member, view: u64, place: &mut Kept) -> Answer
-    ensures unsound { (Sound member.now → ⊥) → (result ≡ unsound) × (place.new ≡ place.old) }
-    ensures answer { Sound member.now → result ≡ done (cond (is_some (served member.now.head.term_length view (values_of member.now))) 1 0) false }
-    ensures copied { Sound member.now → place.new ≡ copied (served member.now.head.term_length view (values_of member.now)) place.old }
+    ensures unsound { (StateSound member.now.head member.now.rows → ⊥) → (result ≡ unsound) × (place.new ≡ place.old) }
+    ensures answer { StateSound member.now.head member.now.rows → result ≡ done (cond (is_some (served member.now.head.term_length view (values_of member.now))) 1 0) false }
+    ensures copied { StateSound member.now.head member.now.rows → place.new ≡ copied (served member.now.head.term_length view (values_of member.now)) place.old }
 {
-    let mut work = *member;
-    let mut places = [Row::new(0); PLACES];
-    let Driven {
-        resolver,
-        sound,
-        ..
-    } = resume(&mut work, &mut places);
-    if !sound {
+    let mut rows = member.rows;
+    let state = open(&member.head, &mut rows);
+    if !state.is_fit() {
         return Answer::unsound();
     }
-    Answer::done(u32::from(resolver.produce(view, place)), false)
+    Answer::done(u32::from(state.produce(view, place)), false)
 }
 
 /// Asks for what a proposal names below it, unless it is settled, and answers whether it did. Where `targeted` is not 0
