@@ -20,7 +20,7 @@ use Rattle.planning.proofs.Gaps.{gaps_exactly}
 use Rattle.planning.specs.Gaps.{among}
 use Rattle.resolver.specs.Applied.{ended, in_turn, applied}
 use Rattle.state.specs.Laws.{fetched, is_gap, NoGapUnasked, EveryGapAsked, SettledOnlyGrows}
-use Rattle.state.specs.Lawful.{Lawful}
+use Rattle.lawful.specs.Lawful.{Lawful}
 use Rattle.state.specs.Settled.{settled}
 use Rattle.store.specs.Values.{Values, mark_view, finalized, has_failed, is_covered, gaps_of}
 use Rattle.table.specs.Rows.{holds, lookup as lookup_row}

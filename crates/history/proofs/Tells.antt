@@ -14,7 +14,7 @@ use Rattle.planning.specs.Gaps.{among, missing}
 use Rattle.record.specs.declared.kind.Kind.{Kind}
 use Rattle.record.specs.declared.kind.Kind.TheVariants.{Notarization, Nullification, Finalization}
 use Rattle.state.specs.Answers.{is_notarization}
-use Rattle.state.specs.Lawful.{Lawful}
+use Rattle.lawful.specs.Lawful.{Lawful}
 use Rattle.state.specs.Settled.{settled}
 use Rattle.store.specs.Steps.{failed_fetch, nullified_effects, notarized_effects, finalization_effects, raised_effects, taken_effects, planned_effects, updated, updated_effects, before_planning, seen, finalized_at, nullified as with_nullification, notarized as with_notarization, finalization_taken, pruned, raised, planned, certified, certified_effects, failing_effects, passing, certified_at, failing, failed_at, passed as with_passed, replayed, replayed_effects, failed_bare, is_bare, ended}
 use Rattle.store.specs.Values.{Values, mark_view, finalized as finalized_in, has_failed, is_covered, unplanned}

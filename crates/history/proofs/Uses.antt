@@ -25,7 +25,7 @@ use Rattle.state.specs.declared.fault.Fault.TheVariants.{TooFewPlaces}
 use Rattle.state.proofs.Sounds.{Rises as Rise}
 use Rattle.state.specs.Laws.{is_gap, EveryGapAsked}
 use Rattle.state.specs.Laws as states
-use Rattle.state.specs.Lawful.{Lawful}
+use Rattle.lawful.specs.Lawful.{Lawful}
 use Rattle.state.specs.Settled.{settled as holds_settled}
 use Rattle.state.specs.States.{held}
 use Rattle.state.specs.declared.state.State.{State}

@@ -14,21 +14,23 @@ mod walk;
 use crate::walk::{Gaps, following};
 use effects::{Effect, Effects, FetchReason};
 use table::Table;
-use terms::{Fault, TermLength};
+use terms::{Fault, LAST_VIEW, TermLength};
 use views::{View, Viewable};
 
 /// The first anchor from `low` on that is not below `current`.
 #[tactic(auto, using(crate::proofs::Cursors::lands_here, crate::proofs::Cursors::lands_past), unfolding(crate::specs::Gaps::first_start))]
-fn landing(term_length: TermLength, low: View, current: View) -> View
-    requires { current ≤ 2 ^ 62 }
-    ensures { result ≡ landing (views_of term_length) low current }
+pub fn landing(term_length: TermLength, low: View, current: View) -> Result<View, Fault>
+    ensures { MatchResult result (λ a. (current ≤ 2 ^ 62) × (a ≡ landing (views_of term_length) low current)) (λ f. (2 ^ 62 < current) × (f ≡ ViewTooHigh)) }
 {
+    if current > LAST_VIEW {
+        return Err(Fault::ViewTooHigh);
+    }
     if low >= current {
-        low
+        Ok(low)
     } else if term_length.is_term_start(current) {
-        current
+        Ok(current)
     } else {
-        following(term_length, current)
+        Ok(following(term_length, current))
     }
 }
 
@@ -77,5 +79,5 @@ pub fn fetch_missing<R: Copy + Viewable>(
             reason: FetchReason::MissingNullification,
         });
     }
-    Ok(landing(term_length, low, current))
+    landing(term_length, low, current)
 }

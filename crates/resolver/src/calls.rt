@@ -53,6 +53,13 @@ impl<'a, R: Copy + Viewable> Resolver<'a, R> {
         }
     }
 
+    /// A resolver that goes on with a state. Its board is to be the one that went with it.
+    pub fn over(state: State<'a, R>) -> Resolver<'a, R>
+        ensures { result.state ≡ state.entry }
+    {
+        Resolver { state }
+    }
+
     /// The state, to be read.
     pub fn state(&self) -> &State<'a, R>
         ensures { result.now ≡ self.now.state }

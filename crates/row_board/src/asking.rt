@@ -108,6 +108,16 @@ impl<'a> RowBoard<'a> {
         }
     }
 
+    /// How many asks are open.
+    #[tactic(auto, using(crate::proofs::Counts::all_counted))]
+    pub fn len(&self) -> usize
+        ensures value { result ≡ length (open_asks self.now) }
+        ensures bound { result ≤ 320 }
+    {
+        let counts = self.counts();
+        counts.background + counts.ancestry
+    }
+
     /// The rows.
     fn as_slice(&self) -> &[Row]
         ensures { result.now ≡ rows_of self.now }

@@ -2,8 +2,8 @@
 #![tactic(auto)]
 
 ghost use Rattle.std.specs.Option.{option_copied};
-ghost use Rattle.std.specs.Prelude.{◌≡◌, length, drop, if◌then◌else◌, is_some, Some, None, nat_lt, slice_set};
-ghost use Rattle.slot.specs.Slots.{held, places};
+ghost use Rattle.std.specs.Prelude.{◌≡◌, cond, length, drop, if◌then◌else◌, is_some, Some, None, nat_lt, slice_set};
+ghost use Rattle.slot.specs.Slots.{first_of, held, places};
 
 /// A place that holds one value or none. A value in a place that holds none is free.
 #[derive(Drop)]
@@ -20,6 +20,30 @@ impl<'a, T> Slot<'a, T> {
         ensures place { result.place.now ≡ place.old }
     {
         Slot { place, full: false }
+    }
+
+    /// A place that holds what stands in it, if it is to be full and the host lent one.
+    pub fn resume(place: &'a mut [T], full: bool) -> Slot<'a, T>
+        ensures held { held result ≡ cond full (first_of place.old) None }
+        ensures places { places result ≡ length place.old }
+        ensures place { result.place.now ≡ place.old }
+    {
+        Slot { place, full }
+    }
+
+    /// Takes off what it holds.
+    pub fn clear(&mut self)
+        ensures empty { held self.new ≡ None }
+        ensures places { places self.new ≡ places self.old }
+    {
+        self.full = false;
+    }
+
+    /// How many places the host lent.
+    pub fn places(&self) -> usize
+        ensures { result ≡ places self.now }
+    {
+        self.place.len()
     }
 
     /// What it holds, where it stands.

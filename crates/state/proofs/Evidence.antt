@@ -14,7 +14,7 @@ use Rattle.store.specs.Values.{Values, mark_view, is_covered, gaps_of, unplanned
 use Rattle.store.specs.Room.{Room, VerdictRoom}
 use Rattle.store.specs.Steps.{settles, failed_fetch, taken_effects, seen, nullified, notarized, finalized_at, pruned, raised, finalization_taken, before_planning, planned, planned_effects, updated, updated_effects, raised_effects, judged, certified_at, passing, passed, failed_at, failing, failing_effects, certified, certified_effects, ended, replayed, replayed_effects, is_bare, failed_bare}
 use Rattle.state.specs.Answers.{gaps_over, evidence_answer, verdict_answer, marker_answer}
-use Rattle.state.specs.Lawful.{Sound, Lawful}
+use Rattle.lawful.specs.Lawful.{Sound, Lawful}
 use Rattle.state.specs.Laws.{fetched, Promises, NoNullificationSettled, NotarizationSettlesNoNullification, EveryGapAsked}
 use Rattle.state.proofs.Fetches.{fetched_append, fetched_after, taken_none, raised_none, failing_none, planned_fetches, none_failed}
 use Rattle.state.proofs.Moves.{Step, no_more_gaps, planned_after, no_gap_unasked, tail_asked, gaps_do_not_grow, planned_few}

@@ -13,7 +13,7 @@ use Rattle.effects.specs.Lists as list
 use Rattle.store.specs.Ready.{length_of, Roomy, Low, Turned, HasRoom}
 use Rattle.store.specs.Values.{Values, values, mark_view, finalized}
 use Rattle.state.specs.declared.state.State.{State}
-use Rattle.state.specs.Lawful.{Lawful}
+use Rattle.lawful.specs.Lawful.{Lawful}
 use Rattle.state.specs.States.{held, term}
 use Rattle.state.proofs.Sounds.{Rises as Rise}
 

@@ -11,7 +11,7 @@ use Rattle.terms.specs.Terms.{is_start}
 use Rattle.views.specs.declared.Viewable as viewable
 use Rattle.store.specs.Values.{Values, is_covered, gaps_of, unplanned}
 use Rattle.store.specs.Steps.{planned, planned_effects}
-use Rattle.state.specs.Lawful.{Planned}
+use Rattle.lawful.specs.Lawful.{Planned}
 use Rattle.state.specs.Laws.{fetched, NoGapUnasked, GapsDoNotGrow, TailAsked}
 use Rattle.state.proofs.Covers.{extends}
 

@@ -10,7 +10,7 @@ use Rattle.terms.specs.Terms.{end}
 use Rattle.views.specs.declared.Viewable as viewable
 use Rattle.store.specs.Values.{Values, mark, mark_view, view_of, finalized}
 use Rattle.store.specs.Steps.{nullified, notarized, finalized_at, pruned, raised, finalization_taken, before_planning, planned, judged, certified_at, passing, passed, failed_at, failing, ended}
-use Rattle.state.specs.Lawful.{Sound}
+use Rattle.lawful.specs.Lawful.{Sound}
 use Rattle.state.specs.Settled.{answered, settled}
 use Rattle.state.specs.Laws.{SettledOnlyGrows, DroppedOnlyWhenFinalized, NoNullificationSettled}
 use Rattle.state.proofs.Covers.{stays_covered}

@@ -10,7 +10,7 @@ use Rattle.views.specs.declared.Viewable as viewable
 use Rattle.store.specs.Values.{Values, mark, mark_view, view_of, finalized, is_nullified, is_pending, is_certified, has_failed}
 use Rattle.store.specs.Room.{Room, VerdictRoom}
 use Rattle.store.specs.Steps.{nullified, notarized, finalized_at, pruned, raised, finalization_taken, seen, before_planning, planned, judged, certified_at, passing, passed, failed_at, failing, ended}
-use Rattle.state.specs.Lawful.{Sound}
+use Rattle.lawful.specs.Lawful.{Sound}
 
 -- the views of each list rise
 pub record Rises {R : Type 0} {g : viewable.Ghosts R} (s : Values R g) : Type 0 where

@@ -12,13 +12,8 @@ pub mod state;
 pub mod telling;
 
 pub use fault::Fault;
+pub use lawful::{GAPS, ROWS};
 pub use state::State;
-
-/// How many rows a table may hold, and how many places it must have.
-pub const ROWS: usize = 128;
-
-/// How many gaps may stand after replay.
-pub const GAPS: usize = 128;
 
 /// How many places a list of effects must have.
 pub const EFFECTS: usize = 256;

@@ -1,11 +1,14 @@
-ghost use Rattle.std.specs.Prelude.{◌≡◌, ◌<◌, true, false, ◌⊎◌, MatchResult};
+ghost use Rattle.std.specs.Prelude.{◌≡◌, ◌<◌, true, false, ◌⊎◌, MatchBool, MatchResult};
 ghost use Rattle.store.specs.Fresh.{fresh};
+ghost use Rattle.store.specs.Ready.{length_of};
 ghost use Rattle.terms.specs.Terms.{views as views_of};
 ghost use Rattle.terms.specs.declared.fault.Fault.TheVariants.{ZeroLength};
+ghost use Rattle.state.specs.Resuming.{Resumable};
 ghost use Rattle.state.specs.States.{held, term, epoch_of, fits as suits, enough};
 ghost use Rattle.state.specs.declared.fault.Fault.TheVariants.{Terms, TooFewPlaces};
 
 use crate::{Fault, ROWS, State};
+use lawful::{is_lawful, is_roomy};
 use store::{Memory, Store};
 use terms::TermLength;
 use views::Viewable;
@@ -46,5 +49,18 @@ impl<'a, R: Copy + Viewable> State<'a, R> {
             store: Store::new(term_length, epoch, memory),
             fit,
         }
+    }
+
+    /// A state over a store that holds something, exactly if it has places enough and holds what calls may leave. Else
+    /// nothing is recorded, and every change is refused.
+    pub fn resume(mut store: Store<'a, R>) -> State<'a, R>
+        ensures value { MatchBool (suits result) (Resumable store.entry × (result.store ≡ store.entry)) ((Resumable store.entry → ⊥) × (held result ≡ fresh)) }
+        ensures fixed { (term result ≡ length_of store.entry) × (epoch_of result ≡ store.entry.epoch) }
+    {
+        if is_roomy(&store) && is_lawful(&store) {
+            return State { store, fit: true };
+        }
+        store.clear();
+        State { store, fit: false }
     }
 }

@@ -1,7 +1,7 @@
 ghost use Rattle.std.specs.Prelude.{◌≡◌, true};
 ghost use Rattle.store.specs.Ready.{length_of, Roomy};
 ghost use Rattle.store.specs.Values.{values};
-ghost use Rattle.state.specs.Lawful.{Lawful};
+ghost use Rattle.lawful.specs.Lawful.{Lawful};
 
 use store::Store;
 use views::Viewable;

@@ -52,6 +52,13 @@ impl<'a, R: Copy + Viewable> State<'a, R> {
         self.store.cursor
     }
 
+    /// The highest finalization, if one is known.
+    pub fn finalization(&self) -> Option<R>
+        ensures { result ≡ (held self.now).finalization }
+    {
+        self.store.finalization.get()
+    }
+
     /// The highest finalized view, or 0 if none is known.
     pub fn last_finalized(&self) -> View
         ensures { result ≡ finalized (held self.now) }

@@ -3,6 +3,7 @@ ghost use Rattle.slot.specs.Slots.{places};
 ghost use Rattle.table.specs.Tables.{capacity};
 ghost use Rattle.terms.specs.Terms.{views as views_of};
 ghost use Rattle.store.specs.Values.{values, finalized};
+ghost use Rattle.store.specs.Ready.{Turned};
 ghost use Rattle.store.specs.Steps.{is_bare};
 ghost use Rattle.store.specs.Fresh.{fresh};
 
@@ -45,6 +46,22 @@ impl<'a, R: Copy + Viewable> Store<'a, R> {
             certified_notarizations: Table::new(certified_notarizations),
             uncertifiable_notarizations: Table::new(uncertifiable_notarizations),
         }
+    }
+
+    /// Takes off all that was recorded: it is at the start of a replay again.
+    #[tactic(auto, unfolding(crate::specs::Fresh::fresh))]
+    pub fn clear(&mut self)
+        ensures { Turned self.old self.new fresh }
+    {
+        self.current_view = 0;
+        self.floor = 0;
+        self.cursor = 0;
+        self.replaying = true;
+        self.finalization.clear();
+        self.nullifications.clear();
+        self.pending_notarizations.clear();
+        self.certified_notarizations.clear();
+        self.uncertifiable_notarizations.clear();
     }
 
     /// The highest finalized view, or 0 if none is known.

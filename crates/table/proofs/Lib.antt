@@ -1,3 +1,4 @@
+pub mod Adjacent
 pub mod Halving
 pub mod Laws
 pub mod Placing

@@ -1,5 +1,5 @@
 -- Rows in ascending order of their views, and what each change makes of them. `at` tells the view of a row.
-use Rattle.std.specs.Prelude.{◌≡◌, ℕ, ◌<◌, ◌≤◌, Bool, true, false, cond, not, ◌||◌, ltb, List, [], ◌∷◌, ◌++◌, map, length, is_some, Some, None, filter, Option, ◌==◌, ◌≢◌, nat_le, nat_lt, slice_index, slice_index_or}
+use Rattle.std.specs.Prelude.{◌≡◌, ℕ, ◌<◌, ◌≤◌, Bool, true, false, cond, not, ◌||◌, ltb, List, [], ◌∷◌, ◌++◌, map, length, take, is_some, Some, None, filter, Option, ◌==◌, ◌≢◌, nat_le, nat_lt, slice_index, slice_index_or}
 
 -- the last element, if there is one
 abbrev pub last_of : {R : Type 0} → List R → Option R
@@ -15,6 +15,11 @@ module _ {R : Type 0} (at : R → ℕ) where
   -- the views rise from each row to every later one
   abbrev pub Ascending : List R → Type 0
   Ascending rs = (i j : ℕ) → i < j → j < length rs → slice_index (views rs) i < slice_index (views rs) j
+
+  -- so many rows that a table may hold them
+  pub record Resumable (n : ℕ) (rs : List R) : Type 0 where
+    pub fits : n ≤ length rs
+    pub rises : Ascending (take n rs)
 
   -- the row of a view, if there is one
   unfoldable pub lookup : ℕ → List R → Option R

@@ -1,7 +1,8 @@
-ghost use Rattle.std.specs.Prelude.{◌≡◌, ◌<◌, ◌≤◌, [], length, take, if◌then◌else◌, MatchOption, MatchResult, slice_index_or};
-ghost use Rattle.table.specs.Rows.{Ascending, lookup, holds, highest, without, with_row, has_room, kept, Parts, Here, Gap};
+ghost use Rattle.std.specs.Prelude.{◌≡◌, ◌<◌, ◌≤◌, [], length, take, if◌then◌else◌, Decides, MatchOption, MatchResult, slice_index_or};
+ghost use Rattle.table.specs.Rows.{Ascending, Resumable, lookup, holds, highest, without, with_row, has_room, kept, Parts, Here, Gap};
 ghost use Rattle.table.specs.Laws.{NothingFound, OfItsView, FoundItself, Nearest, OneMore, Counted, OneLess, OnlyKept, NoMore};
 
+use crate::ascending::rises;
 use crate::searching::first_kept;
 use crate::{From, Order, Past};
 use views::{View, Viewable};
@@ -28,6 +29,31 @@ impl<'a, R: Copy + Viewable> Table<'a, R> {
         Table { rows, len: 0 }
     }
 
+    /// The table of the first `len` rows of a slice, exactly if there are so many and their views rise.
+    pub fn resume(rows: &'a mut [R], len: usize) -> Option<Table<'a, R>>
+        ensures { MatchOption result (Resumable R.Viewable.viewed len rows.old → ⊥) (λ t. Resumable R.Viewable.viewed len rows.old × (entries t ≡ take len rows.old) × (capacity t ≡ length rows.old)) }
+    {
+        if !Table::resumes(rows, len) {
+            return None;
+        }
+        Some(Table { rows, len })
+    }
+
+    /// Whether a slice has so many rows, and their views rise.
+    pub fn resumes(rows: &[R], len: usize) -> bool
+        ensures { Decides result (Resumable R.Viewable.viewed len rows.now) }
+    {
+        len <= rows.len() && rises(&rows[..len])
+    }
+
+    /// Takes all rows off the table.
+    pub fn clear(&mut self)
+        ensures rows { entries self.new ≡ [] }
+        ensures cap { capacity self.new ≡ capacity self.old }
+    {
+        self.len = 0;
+    }
+
     /// How many rows there are.
     pub fn len(&self) -> usize
         ensures value { result ≡ length (entries self.now) }
@@ -35,6 +61,13 @@ impl<'a, R: Copy + Viewable> Table<'a, R> {
         ensures first { take result self.now.rows.now ≡ entries self.now }
     {
         self.as_slice().len()
+    }
+
+    /// How many rows there may be.
+    pub fn capacity(&self) -> usize
+        ensures { result ≡ capacity self.now }
+    {
+        self.rows.len()
     }
 
     /// The rows, in ascending order of their views.

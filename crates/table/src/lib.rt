@@ -1,6 +1,7 @@
 //! Rows in ascending order of their views, in memory that a host lends.
 #![tactic(auto)]
 
+mod ascending;
 pub mod lent;
 pub mod mark;
 pub mod order;

@@ -1,6 +1,7 @@
 use views::{View, Viewable};
 
 /// A row without a value: a view that is marked.
+#[repr(C)]
 #[derive(Clone, Copy, Debug, PartialEq, Eq)]
 pub struct Mark {
     pub view: View,

@@ -1,6 +1,6 @@
 use Rattle.std.proofs.Common.{◌≡◌, true, sym, subst, rules}
 use Rattle.store.specs.Ready.{length_of, Roomy}
-use Rattle.state.specs.Lawful.{Lawful}
+use Rattle.lawful.specs.Lawful.{Lawful}
 use Rattle.state.proofs.Facts.{fresh_lawful}
 use Rattle.state.proofs.state.State.new.Goals as goal
 

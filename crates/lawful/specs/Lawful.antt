@@ -5,6 +5,13 @@ use Rattle.terms.specs.Terms.{end}
 use Rattle.views.specs.declared.Viewable as viewable
 use Rattle.store.specs.Values.{Values, finalized, is_nullified, is_pending, is_certified, has_failed, gaps_of}
 
+-- no table too long
+pub record Few {R : Type 0} {g : viewable.Ghosts R} (s : Values R g) : Type 0 where
+  pub nullifications : length s.nullifications ≤ 128
+  pub pending : length s.pending ≤ 128
+  pub certified : length s.certified ≤ 128
+  pub failed : length s.failed ≤ 128
+
 -- no floor below the finalized view, no row that finalization has ruled out, no table too long, no view too high
 pub record Sound {R : Type 0} {g : viewable.Ghosts R} (L : ℕ) (s : Values R g) : Type 0 where
   pub nullifications_few : length s.nullifications ≤ 128

@@ -1,0 +1,3 @@
+pub mod Back
+pub mod Last
+pub mod Steps

@@ -1,0 +1,3 @@
+pub mod Asks
+pub mod Kept
+pub mod Written

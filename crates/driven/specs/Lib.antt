@@ -1,0 +1,3 @@
+pub mod Lists
+pub mod Members
+pub mod Resuming
