@@ -1,6 +1,7 @@
 use board::{Ask, Board, Lent, Open};
 use effects::{Effect, Effects};
 use list_board::ListBoard;
+use own_parts::Chosen;
 use record::{Certificate, Proof, Round};
 use resolver::{Delivered, Fault, Outcome, Resolver};
 use row_board::{Row, RowBoard};
@@ -118,4 +119,13 @@ fn list(rt: HostRuntime) -> Result<(), Fail> {
 fn rows(rt: HostRuntime) -> Result<(), Fail> {
     let mut places = [Row::new(0); 320];
     each(&rt, &mut RowBoard::new(Lent::test(&mut places)?))
+}
+
+#[test]
+fn chosen(rt: HostRuntime) -> Result<(), Fail> {
+    let mut places = [Row::new(0); 320];
+    let mut board: Chosen<RowBoard, ListBoard> = Chosen::One(RowBoard::new(Lent::test(
+        &mut places,
+    )?));
+    each(&rt, &mut board)
 }

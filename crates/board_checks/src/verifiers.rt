@@ -1,3 +1,4 @@
+use own_parts::Both;
 use record::{Certificate, Proof, Round};
 use std::test::Fail;
 use verifier::{Fault, RollVerifier, SeatVerifier, Verifier};
@@ -80,6 +81,27 @@ fn a_roll_is_searched(rt: HostRuntime) -> Result<(), Fail> {
     assert!(rt; !RollVerifier::new(&roll[..0])?.accepts(&one));
     for broken in [&roll[..1], &roll[..95], &roll[..97], &roll[..191]] {
         assert!(rt; RollVerifier::new(broken).err() == Some(Fault::BrokenRoll));
+    }
+    Ok(())
+}
+
+/// A quorum of seats, or a place on the roll: neither alone is enough.
+#[test]
+fn both_must_accept(rt: HostRuntime) -> Result<(), Fail> {
+    let (good, few) = (signed(7, 0), signed(3, 0));
+    let rows = [
+        (good, good, true),
+        (good, few, false),
+        (few, few, false),
+        (few, good, false),
+    ];
+    for (offered, enrolled, accepted) in rows {
+        let roll = enrolled.write();
+        let both = Both {
+            one: SeatVerifier::new(4, 3)?,
+            other: RollVerifier::new(&roll)?,
+        };
+        assert_eq!(&rt; both.accepts(&offered), accepted);
     }
     Ok(())
 }
