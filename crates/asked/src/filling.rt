@@ -1,4 +1,4 @@
-ghost use Rattle.std.specs.Prelude.{◌≡◌, true, [], ◌∷◌, ◌++◌, Some as Found, None, MatchBool};
+ghost use Rattle.std.specs.Prelude.{◌≡◌, true, false, [], ◌∷◌, ◌++◌, Some as Found, None, MatchBool};
 ghost use Rattle.asked.specs.Rows.{Fitting};
 ghost use Rattle.asked.specs.Lists.{comes_last, appended};
 
