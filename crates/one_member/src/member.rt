@@ -19,10 +19,10 @@ use verifier::SeatVerifier;
 /// and the messages that are to be called later.
 #[derive(Drop)]
 pub struct Member<'a, B> {
-    pub(crate) resolver: Resolver<'a, Certificate>,
-    pub(crate) board: B,
-    pub(crate) verifier: SeatVerifier,
-    pub(crate) effects: Effects<'a>,
+    pub resolver: Resolver<'a, Certificate>,
+    pub board: B,
+    pub verifier: SeatVerifier,
+    pub effects: Effects<'a>,
     /// Each certificate with all of its bytes.
     pub(crate) queue: Pending<'a, [u8; LENGTH]>,
     /// The seats that stand behind a record that does not say.
