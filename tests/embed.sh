@@ -10,6 +10,35 @@ complain() {
     bad=1
 }
 
+# The crates below the archive, and whether the full check left a library of each: such a library has no stamp beside it.
+read -ra below <<<"$(sed -n 's/^embedded staticlib: //p' crates.txt)"
+are_left() {
+    local name
+    for name in "${below[@]}"; do
+        [[ -d crates/$name/out/rlib/$name.rlib && ! -e crates/$name/out/rlib/stamp ]] || return 1
+    done
+}
+
+# `rt lib` proves each library once more, since it takes none that the full check left. Over those, the archive alone is
+# proved and built.
+build() {
+    local name kit words=()
+    rm -f -- "$archive"
+    are_left || {
+        (cd crates/embedded && rt lib)
+        return
+    }
+    kit=$(dirname -- "$(dirname -- "$(readlink -f -- "$(command -v rt)")")")
+    for name in "${below[@]}"; do
+        words+=(--extern "$name=../$name/out/rlib/$name.rlib" -L "dependency=../$name/out/rlib")
+    done
+    mkdir -p -- "${archive%/*}" && cd crates/embedded &&
+        "$kit/bin/rattle" build --crate-name embedded src/lib.rt --crate-type staticlib "${words[@]}" \
+            --extern "std=$kit/rlibs/std.rlib" -L "dependency=$kit/rlibs" --links embedded= --jobs 2 \
+            --antt-project "$kit/rattle/logic/antt-project.json" --logic-built "$kit/logic_built" \
+            --toolchain "$kit/toolchain" --backend llvm -o "${archive#crates/embedded/}"
+}
+
 # run NAME COMPILER ARGUMENT..: compiles with these arguments, if the compiler is there, and runs what came of it.
 run() {
     local name=$1 program=$folder/$1
@@ -24,7 +53,7 @@ run() {
 }
 
 mkdir -p -- "$folder" || exit 1
-(cd crates/embedded && rt lib) >"$folder/log" 2>&1 || {
+(build) >"$folder/log" 2>&1 || {
     tail -n 20 -- "$folder/log" >&2
     complain 'the archive was not built'
     exit 1
