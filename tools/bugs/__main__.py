@@ -5,7 +5,7 @@ usage: python3 tools/bugs [--in FOLDER] [--each N] [--private N] [--more FILE] [
        python3 tools/bugs --table FILE..
 
 The crates are changed in FOLDER, a clone of this repository (target/bugs, which is made if it is not there). Each public
-function gets N bugs that compile (3), each private one --private (0). --more names a file of bugs that are written by
+function gets N bugs that compile (3), each private one --private (0), its must-fail edits counted with them. --more names a file of bugs that are written by
 hand and come first: lines of CRATE, FUNCTION, OLD and NEW, parted by tabs, where OLD stands in the function once.
 
 What came of each bug is added to FILE (target/bugs.jsonl), a line each; what stands there already is not tried again.

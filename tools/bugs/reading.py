@@ -1,5 +1,6 @@
-"""Finds the functions of a file, by the form that rt fmt gives."""
+"""Finds the functions of a file, by the form that rt fmt gives, and the must-fail edits of each."""
 
+import collections
 import re
 
 HEAD = re.compile(
@@ -83,12 +84,16 @@ def owner_at(lines, at):
         return [(indent_of(lines[at]), re.search(r"trait (\w+)", text)[1], True)]
     text = without_generics(re.sub(r"^(?:unsafe )?impl", "", text).rstrip(" {")).split(" where ")[0].strip()
     of, is_of_trait, own = text.partition(" for ")
-    name = base_of(own) + "".join(words_of(of)) if is_of_trait else base_of(text)
+    name = spelled(base_of(own)) + spelled(of) if is_of_trait else base_of(text)
     return [(indent_of(lines[at]), name, bool(is_of_trait))]
 
 
-def words_of(text):
-    return re.findall(r"[A-Za-z_]\w*", re.sub(r"'\w+", "", text.split("::")[-1]))
+def spelled(text):
+    """A type as the checker spells it in a name: `TryFrom<&[u8]>` is `TryFromRefSliceU8`, without parameters of one letter."""
+    trait, _, rest = text.partition("<")
+    rest = re.sub(r"'\w+ ?", "", rest).replace("&", " Ref ").replace("[", " Slice ").replace("()", " Unit ")
+    words = [trait.split("::")[-1], *re.findall(r"[A-Za-z_]\w+", rest)]
+    return "".join(word[:1].upper() + word[1:] for word in words)
 
 
 def base_of(text):
@@ -106,3 +111,16 @@ def without_generics(text):
 
 def indent_of(line):
     return len(line) - len(line.lstrip())
+
+
+def edits_of(folder):
+    """How many must-fail edits each function of a crate has, by name."""
+    found = collections.Counter()
+    for edit in folder.glob("must-fail/*.edit"):
+        text = edit.read_text()
+        file, old = (re.search(rf"^{word}: (.+)$", text, re.M)[1] for word in ("file", "old"))
+        lines = (folder / file).read_text().split("\n")
+        at = next((n for n, line in enumerate(lines) if old in line), -1)
+        for function in functions_of(file, lines) if file.endswith(".rt") else []:
+            found[str(function)] += function.head <= at <= function.last
+    return found

@@ -8,11 +8,14 @@ import subprocess
 import sys
 
 from making import Bug, Maker
-from reading import functions_of
+from reading import edits_of, functions_of
 
 COUNTED = ("refused", "survived")
 # What a proof file says where it misses a name that the code no longer gives: it shows nothing of the bug.
 NAMES = re.compile(r"has no (field )?`|that can be named from here|cannot find|not in scope|is no goal|unknown")
+
+# What the checker says of a function that is not judged, since one that it calls has no proof.
+WAITS = re.compile("it calls|prove it first")
 
 
 def enum_variants(root):
@@ -29,12 +32,12 @@ class Crate:
     def __init__(self, root, name, each, private, more):
         self.name, self.folder = name, root / "crates" / name
         self.texts = {file: file.read_text() for file in sorted(self.folder.glob("src/**/*.rt"))}
-        self.functions, variants = [], enum_variants(root)
+        self.functions, variants, edits = [], enum_variants(root), edits_of(self.folder)
         for file, text in self.texts.items():
             fields = set(re.findall(r"self\.([a-z]\w*)(?![\w(])", text))
             for function in functions_of(file, text.split("\n")):
                 function.bugs = Maker(function, variants, fields).bugs()
-                function.wanted = each if function.public else private
+                function.wanted = max(0, (each if function.public else private) - edits[str(function)])
                 self.functions.append(function)
         for bug in more:
             self.add_by_hand(*bug)
@@ -165,7 +168,7 @@ class Crate:
             return "refused", why
         if errors:
             return "names", why
-        return ("waits" if all("it calls" in line for line in verdicts) else "unclear"), why
+        return ("waits" if all(WAITS.search(line) for line in verdicts) else "unclear"), why
 
     def tell(self, out, function, bug, came, why):
         print(f"{self.name} {function} {bug.kind} {came}: {bug.old}  ->  {bug.new.strip()}", flush=True)
