@@ -1,12 +1,10 @@
-ghost use Rattle.std.specs.Prelude.{◌≡◌, ◌≤◌, true, [], None, IfOk};
-ghost use Rattle.effects.specs.Lists.{entries, places};
-ghost use Rattle.queue.specs.Pendings.{queue_of};
-ghost use Rattle.store.specs.Fresh.{fresh};
-ghost use Rattle.state.specs.States.{held, term, epoch_of, fits};
-ghost use Rattle.terms.specs.Terms.{views as views_of};
-ghost use Rattle.one_member.specs.Enough.{Enough};
+//! The memory that a program lends to a member.
+#![tactic(auto)]
 
-use crate::{Admitted, Member};
+ghost use Rattle.std.specs.Prelude.{◌≡◌, ◌≤◌, true, length, IfOk};
+ghost use Rattle.places.specs.Enough.{Enough};
+ghost use Rattle.state.specs.States.{enough};
+
 use effects::Effect;
 use queue::{Lent, Message, PLACES};
 use record::{Certificate, LENGTH, Proof, Round};
@@ -15,7 +13,7 @@ use std::alloc::{AllocError, Global};
 use store::Memory;
 use table::Mark;
 
-/// The memory that a program lends to a member.
+/// As much memory as a member needs: rows, a list of effects, and what waits in its queue.
 #[derive(Drop)]
 pub struct Places {
     finalization: Vec<Certificate>,
@@ -26,6 +24,14 @@ pub struct Places {
     effects: Vec<Effect>,
     queued_finalization: [Message<[u8; LENGTH]>; 1],
     queued: [Message<[u8; LENGTH]>; PLACES],
+}
+
+/// What a member is made over.
+#[derive(Drop)]
+pub struct Loan<'a> {
+    pub memory: Memory<'a, Certificate>,
+    pub effects: &'a mut [Effect],
+    pub queue: Lent<'a, [u8; LENGTH]>,
 }
 
 impl Places {
@@ -50,15 +56,10 @@ impl Places {
         })
     }
 
-    /// A fresh member with this board, which these places are lent to.
-    pub fn lend<B>(&mut self, admitted: Admitted, board: B) -> Member<'_, B>
-        ensures values { held result.resolver.calls.state ≡ fresh }
-        ensures fixed { (term result.resolver.calls.state ≡ views_of admitted.term_length) × (epoch_of result.resolver.calls.state ≡ admitted.epoch) × (result.verifier ≡ admitted.verifier) × (result.seats ≡ admitted.seats) }
-        ensures board { result.board ≡ board }
-        ensures empty { entries result.effects ≡ [] }
-        ensures queue { queue_of result.queue ≡ record { finalization = None; messages = [] } }
-        ensures fits { Enough self.old → fits result.resolver.calls.state ≡ true }
-        ensures places { Enough self.old → 256 ≤ places result.effects }
+    /// Lends them all to one member.
+    pub fn lend(&mut self) -> Loan<'_>
+        ensures memory { Enough self.old → enough result.memory ≡ true }
+        ensures effects { Enough self.old → 256 ≤ length result.effects.now }
     {
         let memory = Memory {
             finalization: self.finalization.as_mut_slice(),
@@ -67,11 +68,15 @@ impl Places {
             certified_notarizations: self.certified_notarizations.as_mut_slice(),
             uncertifiable_notarizations: self.uncertifiable_notarizations.as_mut_slice(),
         };
-        let lent = Lent::test(
+        let queue = Lent::test(
             self.queued_finalization.as_mut_slice(),
             self.queued.as_mut_slice(),
         )
         .unwrap();
-        Member::new(admitted, memory, self.effects.as_mut_slice(), lent, board)
+        Loan {
+            memory,
+            effects: self.effects.as_mut_slice(),
+            queue,
+        }
     }
 }

@@ -1,6 +1,6 @@
 -- The places that no call of a member finds too few.
 use Rattle.std.specs.Prelude.{◌≤◌, length, vec_items}
-use Rattle.one_member.specs.declared.places.Places.{Places}
+use Rattle.places.specs.declared.Places.{Places}
 
 pub record Enough (p : Places) : Type 0 where
   pub finalization : 1 ≤ length (vec_items p.finalization)
