@@ -1,5 +1,5 @@
 ghost use Rattle.std.specs.Prelude.{◌≡◌, ◌≤◌, true, [], None};
-ghost use Rattle.catching_up.specs.Lives.{Lived};
+ghost use Rattle.peer_rounds.specs.Lives.{Lived};
 ghost use Rattle.effects.specs.Lists.{entries, places as places_in};
 ghost use Rattle.places.specs.Enough.{Enough};
 ghost use Rattle.queue.specs.Pendings.{queue_of};
