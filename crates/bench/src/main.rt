@@ -6,7 +6,8 @@ use list_board::ListBoard;
 use row_board::{Row, RowBoard};
 use std::alloc::Global;
 use std::io::Read;
-use steps::{BoardKind, Line, Stream, run};
+use stepping::{Line, run};
+use steps::{BoardKind, Stream};
 
 /// Runs a stream on a fresh member with the board that it names.
 fn run_with_board(heap: Global, stream: &Stream) -> anyhow::Result<Line> {

@@ -1,10 +1,10 @@
 -- A member that rejoins, from its journal to the last round.
 use Rattle.std.specs.Prelude.{◌≡◌, List, ℕ, ◌++◌}
 use Rattle.board.specs.declared.open.Open.{Open}
-use Rattle.catching_up.specs.Runs.{Rounds}
+use Rattle.peer_rounds.specs.Runs.{Rounds}
 use Rattle.catching_up.specs.Telling.{Rejoined, closing_text}
 use Rattle.catching_up.specs.declared.entry.Entry.{Entry}
-use Rattle.catching_up.specs.declared.running.Summary.{Summary}
+use Rattle.peer_rounds.specs.declared.running.Summary.{Summary}
 use Rattle.one_member.specs.declared.member.Member.{Member}
 
 -- what is written: the beginning, the rounds, and what came of them

@@ -1,11 +1,5 @@
 pub mod Catching
 pub mod Entries
-pub mod Laws
-pub mod Lives
-pub mod Puts
-pub mod Rounds
-pub mod Runs
 pub mod Standings
-pub mod Tallies
 pub mod Telling
 pub mod Texts

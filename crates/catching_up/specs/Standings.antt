@@ -1,19 +1,15 @@
 -- How far a member has come. Terms have L views.
-use Rattle.std.specs.Prelude.{ℕ, zero, suc, ◌+◌, ◌-◌, Bool, cond}
+use Rattle.std.specs.Prelude.{ℕ, zero, suc, ◌+◌, ◌-◌, cond}
 use Rattle.catching_up.specs.declared.standing.Standing.{Standing}
-use Rattle.effects.specs.declared.effect.Kind.TheVariants.{Nullification}
-use Rattle.state.specs.Settled.{settled}
+use Rattle.peer_rounds.specs.Laws.{is_settled}
 use Rattle.store.specs.Values.{Values}
 use Rattle.views.specs.declared.Viewable as viewable
 
 module _ {R : Type 0} {g : viewable.Ghosts R} (L : ℕ) (s : Values R g) where
-  abbrev pub is_settled : ℕ → Bool
-  is_settled v = settled L Nullification v s
-
   -- how many of n views from `low` on are not settled for nullifications
   unfoldable pub unsettled : ℕ → ℕ → ℕ
   unsettled low zero = 0
-  unsettled low (suc n) = unsettled low n + cond (is_settled (low + n)) 0 1
+  unsettled low (suc n) = unsettled low n + cond (is_settled L s (low + n)) 0 1
 
   -- those between the floor and the current view
   abbrev pub bare_views : ℕ

@@ -6,10 +6,11 @@ use Rattle.board.specs.Left.{shown}
 use Rattle.board.specs.declared.open.Open.{Open}
 use Rattle.catching_up.specs.Entries.{entered, defaults_of, TakenIn}
 use Rattle.catching_up.specs.Standings.{standing_of}
-use Rattle.catching_up.specs.Texts.{summary_text, standing_text}
+use Rattle.catching_up.specs.Texts.{standing_text}
+use Rattle.peer_rounds.specs.Texts.{summary_text}
 use Rattle.catching_up.specs.declared.entry.Entry.{Entry}
 use Rattle.catching_up.specs.declared.entry.Entry.TheVariants.{Evidence, Verdict, EndOfReplay}
-use Rattle.catching_up.specs.declared.running.Summary.{Summary}
+use Rattle.peer_rounds.specs.declared.running.Summary.{Summary}
 use Rattle.one_member.specs.Carried.{Called}
 use Rattle.one_member.specs.declared.member.Member.{Member}
 use Rattle.record.specs.Kinds.{name_of}

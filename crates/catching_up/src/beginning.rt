@@ -1,14 +1,15 @@
 ghost use Rattle.std.specs.Prelude.{◌≡◌, ◌≤◌, true, [], None};
-ghost use Rattle.catching_up.specs.Lives.{Lived};
+ghost use Rattle.peer_rounds.specs.Lives.{Lived};
 ghost use Rattle.effects.specs.Lists.{entries, places as places_in};
-ghost use Rattle.one_member.specs.Enough.{Enough};
+ghost use Rattle.places.specs.Enough.{Enough};
 ghost use Rattle.queue.specs.Pendings.{queue_of};
 ghost use Rattle.state.specs.States.{held, term, epoch_of, fits};
 ghost use Rattle.store.specs.Fresh.{fresh};
 ghost use Rattle.terms.specs.Terms.{views as views_of};
 
 use board::Board;
-use one_member::{Admitted, Member, Places};
+use one_member::{Admitted, Member};
+use places::Places;
 
 /// A fresh member with this board. Every history of its calls begins here, if the board has nothing open.
 pub fn fresh<B: Board>(places: &mut Places, admitted: Admitted, board: B) -> Member<'_, B>
@@ -21,5 +22,5 @@ pub fn fresh<B: Board>(places: &mut Places, admitted: Admitted, board: B) -> Mem
     ensures room { Enough places.old → 256 ≤ places_in result.effects }
     ensures lives { B.asks board ≡ [] → Lived B.asks result }
 {
-    places.lend(admitted, board)
+    Member::new(admitted, places.lend(), board)
 }

@@ -1,12 +1,13 @@
 ghost use Rattle.std.specs.Prelude.{IfOk};
 ghost use Rattle.catching_up.specs.Catching.{CaughtUp};
-ghost use Rattle.catching_up.specs.Laws.{NothingMissed};
-ghost use Rattle.catching_up.specs.Lives.{Lived};
-ghost use Rattle.catching_up.specs.Rounds.{Wrote};
+ghost use Rattle.peer_rounds.specs.Laws.{NothingMissed};
+ghost use Rattle.peer_rounds.specs.Lives.{Lived};
+ghost use Rattle.peer_rounds.specs.Rounds.{Wrote};
 
-use crate::{Entry, Summary, close, rejoin, run_rounds};
+use crate::{Entry, close, rejoin};
 use board::Board;
 use one_member::Member;
+use peer_rounds::{Summary, run_rounds};
 use std::alloc::Global;
 use std::io;
 use std::io::Write;

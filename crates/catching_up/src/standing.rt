@@ -1,6 +1,6 @@
 ghost use Rattle.std.specs.Prelude.{◌≡◌, ◌+◌, ◌^◌, ◌≤◌, Some};
-ghost use Rattle.catching_up.specs.Laws.{LacksNothing};
-ghost use Rattle.catching_up.specs.Standings.{is_settled, unsettled, bare_views, standing_of};
+ghost use Rattle.peer_rounds.specs.Laws.{LacksNothing, is_settled};
+ghost use Rattle.catching_up.specs.Standings.{unsettled, bare_views, standing_of};
 ghost use Rattle.catching_up.specs.Texts.{standing_text};
 ghost use Rattle.state.specs.States.{held, term};
 

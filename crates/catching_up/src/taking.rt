@@ -1,7 +1,7 @@
 ghost use Rattle.std.specs.Prelude.{◌≡◌};
 ghost use Rattle.answers.specs.Answered.{done_of};
 ghost use Rattle.catching_up.specs.Entries.{entered, defaults_of, one_if_refused, TakenIn};
-ghost use Rattle.catching_up.specs.Lives.{Lived};
+ghost use Rattle.peer_rounds.specs.Lives.{Lived};
 ghost use Rattle.one_member.specs.Carried.{Called};
 
 use crate::Entry;

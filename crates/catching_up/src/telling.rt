@@ -1,13 +1,14 @@
 ghost use Rattle.std.specs.Prelude.{Some, OnOk};
 ghost use Rattle.std.specs.Io.KnownBytes.{Appends};
-ghost use Rattle.catching_up.specs.Lives.{Lived};
-ghost use Rattle.catching_up.specs.Rounds.{Wrote};
+ghost use Rattle.peer_rounds.specs.Lives.{Lived};
+ghost use Rattle.peer_rounds.specs.Rounds.{Wrote};
 ghost use Rattle.catching_up.specs.Telling.{recorded_text, told_text, closing_text, Learned, Replayed, Rejoined};
 
-use crate::{Entry, Summary, how_far, take_in, take_in_all};
+use crate::{Entry, how_far, take_in, take_in_all};
 use answers::{Numbers, OpenAsks, Tables};
 use board::Board;
 use one_member::Member;
+use peer_rounds::Summary;
 use refusals::Refusal;
 use resolver::Fault;
 use std::io::Write;

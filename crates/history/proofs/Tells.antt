@@ -74,6 +74,23 @@ module _ {R : Type 0} {g : viewable.Ghosts R} (L : ℕ) (k : Kind) (x : R) (s : 
 
 module _ {R : Type 0} {g : viewable.Ghosts R} (sort : R → Kind) (L : ℕ) (positive : 0 < L) (h : List (Call R)) (s : Values R g) (ok : Lawful L s) (r : Recorded sort L h s) where
   module _ (x : R) (t : Values R g) (r' : Recorded sort L (evidence x ∷ h) t) (ok' : Lawful L t) where
+    -- what evidence of a kind says, by what its own effects end
+    tells_of : (k : Kind) → s.floor ≤ t.floor → t.replaying ≡ s.replaying → (before_planning L k x s).replaying ≡ s.replaying
+      → ((v : ℕ) → bare L v s ≡ true → list_any (ends (opened v Background None)) (taken_effects L k x (seen L (g.viewed x) s)) ≡ not (bare L v t))
+      → ((a : Ask) (v : ℕ) (seat : Option ℕ) → settled L a v s ≡ false → list_any (ends (opened v (Ancestry a) seat)) (taken_effects L k x (seen L (g.viewed x) s)) ≡ settled L a v t)
+      → ((v : ℕ) → bare L v t ≡ true → has_failed v t ≡ has_failed v s)
+      → Tells L s t (updated_effects L k x s)
+    tells_of k floor on before background ancestry failed = record {
+      floor = floor;
+      low = ok'.sound.floor_finalized;
+      replay = λ q. sym on ∙ q;
+      quiet = λ v q. evidence_quiet L k x s v (before ∙ (sym on ∙ q));
+      ends_background = λ v free. evidence_ends L k x s (opened v Background None) ∙ background v free;
+      ends_ancestry = λ a v seat open'. evidence_ends L k x s (opened v (Ancestry a) seat) ∙ ancestry a v seat open';
+      failed_more = λ v over free. let a = failed v free in let b = evidence_failed L k x s v in grind (arith, common_steps);
+      failed_only = λ v q. absurd (both_ways _ (evidence_failed L k x s v) q);
+    }
+
     nullification_background : sort x ≡ Nullification → t.floor ≡ s.floor → (v : ℕ) → bare L v s ≡ true → list_any (ends (opened v Background None)) (taken_effects L Nullification x (seen L (g.viewed x) s)) ≡ not (bare L v t)
     unfolding nullified_effects some highest
     nullification_background e up v free =
@@ -106,17 +123,7 @@ module _ {R : Type 0} {g : viewable.Ghosts R} (sort : R → Kind) (L : ℕ) (pos
     unfolding planned before_planning with_nullification
     tells_nullification e is =
         let up : t.floor ≡ s.floor = ap (λ w. w.floor) is in
-        let on : t.replaying ≡ s.replaying = ap (λ w. w.replaying) is in
-        record {
-          floor = omega (arith, up);
-          low = ok'.sound.floor_finalized;
-          replay = λ q. sym on ∙ q;
-          quiet = λ v q. evidence_quiet L Nullification x s v (sym on ∙ q);
-          ends_background = λ v free. evidence_ends L Nullification x s (opened v Background None) ∙ nullification_background e up v free;
-          ends_ancestry = λ k v seat open'. evidence_ends L Nullification x s (opened v (Ancestry k) seat) ∙ nullification_ancestry e k v seat open';
-          failed_more = λ v over free. let a : has_failed v t ≡ has_failed v s = ap (has_failed v) is in let b = evidence_failed L Nullification x s v in grind (arith, common_steps);
-          failed_only = λ v q. absurd (both_ways _ (evidence_failed L Nullification x s v) q);
-        }
+        tells_of Nullification (omega (arith, up)) (ap (λ w. w.replaying) is) refl (nullification_background e up) (nullification_ancestry e) (λ v free. ap (has_failed v) is)
 
     notarization_background : sort x ≡ Notarization → t.floor ≡ s.floor → (v : ℕ) → bare L v s ≡ true → list_any (ends (opened v Background None)) (taken_effects L Notarization x (seen L (g.viewed x) s)) ≡ not (bare L v t)
     unfolding notarized_effects some highest
@@ -150,17 +157,7 @@ module _ {R : Type 0} {g : viewable.Ghosts R} (sort : R → Kind) (L : ℕ) (pos
     unfolding planned before_planning with_notarization
     tells_notarization e is =
         let up : t.floor ≡ s.floor = ap (λ w. w.floor) is in
-        let on : t.replaying ≡ s.replaying = ap (λ w. w.replaying) is in
-        record {
-          floor = omega (arith, up);
-          low = ok'.sound.floor_finalized;
-          replay = λ q. sym on ∙ q;
-          quiet = λ v q. evidence_quiet L Notarization x s v (sym on ∙ q);
-          ends_background = λ v free. evidence_ends L Notarization x s (opened v Background None) ∙ notarization_background e up v free;
-          ends_ancestry = λ k v seat open'. evidence_ends L Notarization x s (opened v (Ancestry k) seat) ∙ notarization_ancestry e k v seat open';
-          failed_more = λ v over free. let a : has_failed v t ≡ has_failed v s = ap (has_failed v) is in let b = evidence_failed L Notarization x s v in grind (arith, common_steps);
-          failed_only = λ v q. absurd (both_ways _ (evidence_failed L Notarization x s v) q);
-        }
+        tells_of Notarization (omega (arith, up)) (ap (λ w. w.replaying) is) refl (notarization_background e up) (notarization_ancestry e) (λ v free. ap (has_failed v) is)
 
     finalization_background : sort x ≡ Finalization → (v : ℕ) → bare L v s ≡ true → list_any (ends (opened v Background None)) (taken_effects L Finalization x (seen L (g.viewed x) s)) ≡ not (bare L v t)
     unfolding finalization_effects finalized_at raised_effects some highest
@@ -212,17 +209,7 @@ module _ {R : Type 0} {g : viewable.Ghosts R} (sort : R → Kind) (L : ℕ) (pos
     tells_finalization : sort x ≡ Finalization → t ≡ updated L Finalization x s → Tells L s t (updated_effects L Finalization x s)
     unfolding planned before_planning finalization_taken finalized_at pruned raised
     tells_finalization e is =
-        let on : t.replaying ≡ s.replaying = ap (λ w. w.replaying) is in
-        record {
-          floor = finalization_floor is;
-          low = ok'.sound.floor_finalized;
-          replay = λ q. sym on ∙ q;
-          quiet = λ v q. evidence_quiet L Finalization x s v (sym on ∙ q);
-          ends_background = λ v free. evidence_ends L Finalization x s (opened v Background None) ∙ finalization_background e v free;
-          ends_ancestry = λ k v seat open'. evidence_ends L Finalization x s (opened v (Ancestry k) seat) ∙ finalization_ancestry e k v seat open';
-          failed_more = λ v over free. let a = finalization_failed is e v free in let b = evidence_failed L Finalization x s v in grind (arith, common_steps);
-          failed_only = λ v q. absurd (both_ways _ (evidence_failed L Finalization x s v) q);
-        }
+        tells_of Finalization (finalization_floor is) (ap (λ w. w.replaying) is) refl (finalization_background e) (finalization_ancestry e) (finalization_failed is e)
 
     of_kind : (k : Kind) → sort x ≡ k → t ≡ updated L k x s → Tells L s t (updated_effects L k x s)
     of_kind Nullification e is = tells_nullification e is

@@ -1,5 +1,4 @@
 pub mod Carried
 pub mod Drained
-pub mod Enough
 pub mod Making
 pub mod Texts

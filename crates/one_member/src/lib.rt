@@ -6,11 +6,9 @@ pub mod admitting;
 pub mod carrying;
 mod draining;
 pub mod member;
-pub mod places;
 pub mod showing;
 
 pub use admitted::Admitted;
 pub use admitting::admit;
 pub use member::Member;
-pub use places::Places;
 pub use showing::Shown;

@@ -7,12 +7,12 @@ ghost use Rattle.terms.specs.Terms.{views as views_of};
 
 use crate::Admitted;
 use both_ways::{Begun, begin};
-use effects::{Effect, Effects};
+use effects::Effects;
 use history::Resolver;
-use queue::{Lent, Pending};
+use places::Loan;
+use queue::Pending;
 use record::{Certificate, LENGTH};
 use record_text::Defaults;
-use store::Memory;
 use verifier::SeatVerifier;
 
 /// One member as a script runs it: its resolver, with its board and its verifier, the list that it lends to each call,
@@ -31,27 +31,26 @@ pub struct Member<'a, B> {
 
 impl<'a, B> Member<'a, B> {
     /// A fresh member, at the start of a replay.
-    pub fn new(
-        admitted: Admitted,
-        memory: Memory<'a, Certificate>,
-        list: &'a mut [Effect],
-        lent: Lent<'a, [u8; LENGTH]>,
-        board: B,
-    ) -> Member<'a, B>
+    pub fn new(admitted: Admitted, loan: Loan<'a>, board: B) -> Member<'a, B>
         ensures values { held result.resolver.calls.state ≡ fresh }
         ensures fixed { (term result.resolver.calls.state ≡ views_of admitted.term_length) × (epoch_of result.resolver.calls.state ≡ admitted.epoch) × (result.verifier ≡ admitted.verifier) × (result.seats ≡ admitted.seats) }
         ensures board { result.board ≡ board }
-        ensures fits { fits result.resolver.calls.state ≡ enough memory.entry }
+        ensures fits { fits result.resolver.calls.state ≡ enough loan.entry.memory }
         ensures empty { entries result.effects ≡ [] }
-        ensures list { result.effects.list.now ≡ list.old }
+        ensures list { result.effects.list.now ≡ loan.entry.effects.now }
         ensures queue { queue_of result.queue ≡ record { finalization = None; messages = [] } }
     {
-        let Begun { resolver, queue } = begin(admitted.term_length, admitted.epoch, memory, lent);
+        let Begun { resolver, queue } = begin(
+            admitted.term_length,
+            admitted.epoch,
+            loan.memory,
+            loan.queue,
+        );
         Member {
             resolver,
             board,
             verifier: admitted.verifier,
-            effects: Effects::new(list),
+            effects: Effects::new(loan.effects),
             queue,
             seats: admitted.seats,
         }

@@ -7,8 +7,9 @@ use crate::Asker;
 use crate::talking::{with_member, without_member};
 use board::{Ask, Lent, Open, PLACES};
 use list_board::ListBoard;
-use one_member::{Admitted, Places};
+use one_member::{Admitted, Member};
 use orders::BoardKind;
+use places::Places;
 use row_board::{Row, RowBoard};
 use std::alloc::Global;
 use std::io;
@@ -26,7 +27,7 @@ fn on_rows<'a, A: Asker<'a>>(
     let mut places = Places::new(heap)?;
     let mut rows = vec![in heap; Row::new(0); PLACES]?;
     let lent = Lent::test(rows.as_mut_slice()).unwrap();
-    let mut member = places.lend(admitted, RowBoard::new(lent));
+    let mut member = Member::new(admitted, places.lend(), RowBoard::new(lent));
     with_member(heap, asker, &mut member)
 }
 
@@ -43,7 +44,7 @@ fn on_list<'a, A: Asker<'a>>(
     let mut places = Places::new(heap)?;
     let mut list = vec![in heap; Open::new(0, Ask::Background, None); PLACES]?;
     let lent = Lent::test(list.as_mut_slice()).unwrap();
-    let mut member = places.lend(admitted, ListBoard::new(lent));
+    let mut member = Member::new(admitted, places.lend(), ListBoard::new(lent));
     with_member(heap, asker, &mut member)
 }
 

@@ -1,2 +1,1 @@
 pub mod Reading
-pub mod InTurn

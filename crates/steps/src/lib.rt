@@ -1,25 +1,18 @@
-//! A stream of steps, and what comes of them on one member: each is read from its 24 bytes, carried out, and counted.
+//! A stream of steps in bytes: its header, its steps, and the records and messages that they name.
 #![tactic(auto)]
 
-mod carrying;
 pub mod fault;
 mod fields;
 pub mod header;
-pub mod member;
-pub mod places;
-pub mod running;
+pub mod records;
 pub mod step;
 pub mod stream;
-pub mod tally;
 
 pub use fault::Fault;
 pub use header::{BoardKind, Header};
-pub use member::Member;
-pub use places::Places;
-pub use running::run;
+pub use records::{message, record_bytes};
 pub use step::{AskSet, Call, Order, Step};
 pub use stream::Stream;
-pub use tally::{Answer, Line, Tally};
 
 /// How many bytes a header has.
 pub const HEADER: usize = 32;

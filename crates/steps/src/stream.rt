@@ -1,4 +1,4 @@
-ghost use Rattle.std.specs.Prelude.{◌≡◌, ◌*◌, ◌/◌, ◌<◌, true, length, Ok as Fine, MatchResult};
+ghost use Rattle.std.specs.Prelude.{◌≡◌, ◌*◌, ◌/◌, ◌<◌, ◌≤◌, true, length, Ok as Fine, MatchOption, MatchResult};
 ghost use Rattle.steps.specs.Format.{readable, step_bytes, step_of, FailsAt, IsStream, Damaged};
 
 use crate::{Fault, HEADER, Header, STEP, Step};
@@ -38,18 +38,20 @@ impl<'a> Stream<'a> {
     }
 
     /// How many steps it has.
-    pub(crate) fn len(&self) -> usize
+    pub fn len(&self) -> usize
         ensures { result ≡ length self.now.steps.now / 24 }
     {
         self.steps.len() / STEP
     }
 
-    /// The step at the place `i`, counted from 0.
-    pub(crate) fn step(&self, i: usize) -> Step
-        requires { i < length self.now.steps.now / 24 }
-        ensures { step_of (step_bytes i self.now.steps.now) ≡ Fine result }
+    /// The step at the place `i`, counted from 0, if it has so many.
+    pub fn step(&self, i: usize) -> Option<Step>
+        ensures { MatchOption result (length self.now.steps.now / 24 ≤ i) (λ s. (i < length self.now.steps.now / 24) × (step_of (step_bytes i self.now.steps.now) ≡ Fine s)) }
     {
+        if i >= self.len() {
+            return None;
+        }
         let at = STEP * i;
-        Step::read(&self.steps[at..at + STEP]).unwrap()
+        Some(Step::read(&self.steps[at..at + STEP]).unwrap())
     }
 }

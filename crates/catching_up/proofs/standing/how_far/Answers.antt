@@ -1,6 +1,6 @@
 use Rattle.std.proofs.Common.{◌∙◌}
 use Rattle.state.specs.States.{held, term}
-use Rattle.catching_up.proofs.Quiet.{none_bare}
+use Rattle.catching_up.proofs.Bare.{none_bare}
 use Rattle.catching_up.proofs.standing.how_far.Goals as goal
 
 pub returns-clause-none_bare : goal.returns-clause-none_bare

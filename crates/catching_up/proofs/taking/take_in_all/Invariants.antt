@@ -1,6 +1,6 @@
 use Rattle.std.proofs.Common.{◌≤◌, take}
 use Rattle.catching_up.specs.Entries.{TakenIn}
-use Rattle.catching_up.specs.Lives.{Lived}
+use Rattle.peer_rounds.specs.Lives.{Lived}
 use Rattle.catching_up.proofs.taking.take_in_all.Given as goal
 
 -- the entries that were gone through are taken in

@@ -2,7 +2,8 @@ use Rattle.std.proofs.Common.{rules, subst, [], ◌∷◌, ◌++◌}
 use Rattle.std.proofs.KnownBytes.{Appends-trans}
 use Rattle.std.specs.Io.KnownBytes.{Appends}
 use Rattle.catching_up.specs.Telling.{told_text, closing_text}
-use Rattle.catching_up.specs.Texts.{summary_text, standing_text}
+use Rattle.catching_up.specs.Texts.{standing_text}
+use Rattle.peer_rounds.specs.Texts.{summary_text}
 use Rattle.catching_up.proofs.Writing.{on_ok}
 use Rattle.catching_up.proofs.telling.close.Goals as goal
 

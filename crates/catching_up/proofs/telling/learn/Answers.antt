@@ -1,6 +1,6 @@
 use Rattle.std.proofs.Common.{rules, refl, OnOk}
 use Rattle.std.specs.Io.KnownBytes.{Appends}
-use Rattle.catching_up.specs.Rounds.{Wrote}
+use Rattle.peer_rounds.specs.Rounds.{Wrote}
 use Rattle.catching_up.specs.Telling.{learned_line, Learned}
 use Rattle.catching_up.proofs.Writing.{on_ok}
 use Rattle.catching_up.proofs.telling.learn.Goals as goal

@@ -1,7 +1,7 @@
 use Rattle.std.proofs.Common.{◌++◌, refl}
 use Rattle.std.proofs.KnownBytes.{Appends-trans}
 use Rattle.std.specs.Io.KnownBytes.{Appends}
-use Rattle.catching_up.specs.Rounds.{Wrote}
+use Rattle.peer_rounds.specs.Rounds.{Wrote}
 use Rattle.catching_up.specs.Telling.{told_text, Rejoined}
 use Rattle.catching_up.proofs.Writing.{on_ok}
 use Rattle.catching_up.proofs.telling.rejoin.Goals as goal

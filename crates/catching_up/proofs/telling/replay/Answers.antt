@@ -1,7 +1,7 @@
 use Rattle.std.proofs.Common.{rules, ◌++◌, length, refl}
 use Rattle.std.proofs.KnownBytes.{Appends-trans}
 use Rattle.std.specs.Io.KnownBytes.{Appends}
-use Rattle.catching_up.specs.Rounds.{Wrote}
+use Rattle.peer_rounds.specs.Rounds.{Wrote}
 use Rattle.catching_up.specs.Telling.{journal_line, Learned, Replayed}
 use Rattle.catching_up.specs.declared.entry.Entry.TheVariants.{EndOfReplay}
 use Rattle.catching_up.proofs.Writing.{on_ok}

@@ -1,4 +1,4 @@
-use Rattle.std.proofs.Common.{ap, ◌∙◌, arith}
+use Rattle.std.proofs.Common.{◌≤◌, length, sym, ap, subst, ◌∙◌, arith}
 use Rattle.board.specs.Sorting.{sorted}
 use Rattle.row_board.specs.Boards.{open_asks}
 use Rattle.row_board.specs.Entries.{asks_of as asks_in}
@@ -15,21 +15,23 @@ unwrap-lent-requires g c = ok_when c.test.result _ _ c.test.ensures (λ e q. ome
 pub returns-clause-life : goal.returns-clause-life
 unfolding sorted
 returns-clause-life g c =
-    let lent = c.lend-member.ensures in
-    let begun : Fresh open_asks c.args.admitted c.lend-member.result = record {
-      values = lent.values;
-      term_length = lent.fixed.0;
-      epoch = lent.fixed.1;
-      verifier = lent.fixed.2;
-      seats = lent.fixed.3;
-      board = ap open_asks lent.board ∙ ap (λ rows. sorted (asks_in rows)) c.new-3.ensures;
-      effects = lent.empty;
-      queue = lent.queue;
-      memory = lent.fits c.in_ok-places.ensures;
-      list = lent.places c.in_ok-places.ensures;
+    let made = c.new-member.ensures in
+    let lent = c.lend.ensures in
+    let enough = c.in_ok-places.ensures in
+    let begun : Fresh open_asks c.args.admitted c.new-member.result = record {
+      values = made.values;
+      term_length = made.fixed.0;
+      epoch = made.fixed.1;
+      verifier = made.fixed.2;
+      seats = made.fixed.3;
+      board = ap open_asks made.board ∙ ap (λ rows. sorted (asks_in rows)) c.new-3.ensures;
+      effects = made.empty;
+      queue = made.queue;
+      memory = made.fits ∙ lent.memory enough;
+      list = subst (λ list. 256 ≤ length list) (sym made.list) (lent.effects enough);
     } in
     says_more c.with_member.result
-    (λ next. Talk g.A.Asker.given g.A.Asker.taken (AnsweredBy open_asks) c.args.asker.now c.lend-member.result next c.with_member.new.asker c.with_member.new.member)
+    (λ next. Talk g.A.Asker.given g.A.Asker.taken (AnsweredBy open_asks) c.args.asker.now c.new-member.result next c.with_member.new.asker c.with_member.new.member)
     (λ next. Life g.A.Asker.given g.A.Asker.taken open_asks c.args.admitted c.args.asker.now next c.with_member.new.asker)
-    (λ next talk. record { begun = c.lend-member.result; ended = c.with_member.new.member; is_fresh = begun; talk = talk })
+    (λ next talk. record { begun = c.new-member.result; ended = c.with_member.new.member; is_fresh = begun; talk = talk })
     c.with_member.ensures.talk

@@ -1,4 +1,0 @@
-use Rattle.catching_up.proofs.asked.CameDisplay.fmt.Goals as goal
-
-pub returns-in-Brought-clause-writes : goal.returns-in-Brought-clause-writes
-returns-in-Brought-clause-writes g c = rw c.in-Brought.is (rw c.header-header.ensures at c.write.ensures.writes)
