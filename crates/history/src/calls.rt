@@ -1,18 +1,16 @@
-ghost use Rattle.std.specs.Prelude.{◌≡◌, ◌<◌, ◌⊎◌, ◌≢◌, true, false, [], ◌∷◌, List, Bool, length, Ok as Fine, MatchResult};
+ghost use Rattle.std.specs.Prelude.{◌≡◌, ◌<◌, [], ◌∷◌, List, Bool, Ok as Fine, MatchResult};
 ghost use Rattle.board.specs.Boards.{requested};
 ghost use Rattle.effects.specs.Lists.{places};
 ghost use Rattle.history.specs.Events.{Event, updated as updates, certified as certifies, replayed as replays, resolved as resolves, Use};
 ghost use Rattle.history.specs.Promises.{Point, Law};
 ghost use Rattle.history.specs.Uses.{Reached, use_of};
 ghost use Rattle.resolver.specs.Calls.{answer_of, Taken, Judged, Ended, request_answer, If};
-ghost use Rattle.resolver.specs.declared.fault.Fault.TheVariants.{State as OfState, BoardNotEmpty as NotEmpty};
 ghost use Rattle.state.specs.Answers.{refused_if, too_few, if_read, evidence_answer, verdict_answer, marker_answer};
 ghost use Rattle.state.specs.Calls.{Unchanged};
 ghost use Rattle.state.specs.States.{held, term, epoch_of, fits as suits, enough};
 ghost use Rattle.state.specs.declared.fault.Fault.TheVariants.{Terms, TooFewPlaces as Cramped};
 ghost use Rattle.store.specs.Fresh.{fresh};
 ghost use Rattle.terms.specs.Terms.{views as views_of};
-ghost use Rattle.terms.specs.declared.fault.Fault.TheVariants.{ZeroLength};
 
 use crate::Resolver;
 use board::Board;

@@ -1,4 +1,4 @@
-ghost use Rattle.std.specs.Prelude.{◌≡◌, true, map, length, vec_items, IfOk};
+ghost use Rattle.std.specs.Prelude.{◌≡◌, true, map, vec_items, IfOk};
 ghost use Rattle.answers.specs.Answered.{done_of, judged_of};
 ghost use Rattle.peer_rounds.specs.Laws.{SettledIsClosed, AllClosed, is_complete};
 ghost use Rattle.peer_rounds.specs.Lives.{Lived};

@@ -3,7 +3,7 @@ ghost use Rattle.peer_rounds.specs.Laws.{SettledIsClosed};
 ghost use Rattle.peer_rounds.specs.Lives.{Lived};
 ghost use Rattle.peer_rounds.specs.Rounds.{open_from, following, Wrote, Round};
 
-use crate::{Put, Tally, put};
+use crate::{Tally, put};
 use board::{Ask, Board};
 use one_member::Member;
 use std::alloc::Global;
