@@ -1,6 +1,7 @@
 use Rattle.std.proofs.Common.{arith}
 use Rattle.row_board.specs.Boards.{rows_of}
-use Rattle.row_board.proofs.Entries.{ancestry_rows, background_counted, counted_rows}
+use Rattle.row_board.proofs.Entries.{ancestry_rows}
+use Rattle.row_board.proofs.Keeping.{background_counted, counted_rows}
 use Rattle.row_board.proofs.asking.RowBoardBoard.counts.Goals as goal
 
 pub overflow_add-result : goal.overflow_add-result

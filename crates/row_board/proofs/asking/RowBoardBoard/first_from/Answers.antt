@@ -5,7 +5,7 @@ use Rattle.board.specs.Sorting.{sorted}
 use Rattle.board.specs.declared.open.Open.{Open}
 use Rattle.row_board.specs.Entries.{views_apart, nearest}
 use Rattle.row_board.specs.Rows.{fresh, asks_in}
-use Rattle.row_board.proofs.Entries.{first_more}
+use Rattle.row_board.proofs.Keeping.{first_more}
 use Rattle.row_board.proofs.asking.RowBoardBoard.first_from.Goals as goal
 
 pub loop-row-init : goal.loop-row-init

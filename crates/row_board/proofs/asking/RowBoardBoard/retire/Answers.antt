@@ -4,7 +4,7 @@ use Rattle.row_board.specs.Boards.{rows_of}
 use Rattle.row_board.specs.Entries.{asks_of, closed_rows}
 use Rattle.row_board.specs.Rows.{is_bare}
 use Rattle.row_board.specs.declared.rows.RowBoard.{RowBoard}
-use Rattle.row_board.proofs.Entries.{Kept, closing, kept_closed}
+use Rattle.row_board.proofs.Keeping.{Kept, closing, kept_closed}
 use Rattle.row_board.proofs.asking.RowBoardBoard.retire.Goals as goal
 
 kept_by : (s : RowBoard) → Kept (rows_of s)

@@ -1,6 +1,6 @@
 use Rattle.std.specs.Prelude.{nat_le}
 use Rattle.board.specs.Asks.{place, place_of}
-use Rattle.row_board.proofs.Entries.{nearest_row}
+use Rattle.row_board.proofs.Keeping.{nearest_row}
 use Rattle.row_board.proofs.row.Row.nearest.Goals as goal
 
 pub returns : goal.returns

@@ -1,6 +1,6 @@
 use Rattle.std.proofs.Common.{◌∙◌}
 use Rattle.row_board.specs.Boards.{rows_of}
-use Rattle.row_board.proofs.Entries.{background_counted}
+use Rattle.row_board.proofs.Keeping.{background_counted}
 use Rattle.row_board.proofs.rows.RowBoard.background.Goals as goal
 
 pub returns : goal.returns

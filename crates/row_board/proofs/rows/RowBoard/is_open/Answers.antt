@@ -1,7 +1,7 @@
 use Rattle.std.proofs.Common.{get_or, ap, sym, ◌∙◌}
 use Rattle.row_board.specs.Boards.{rows_of}
 use Rattle.row_board.specs.Rows.{fresh, has}
-use Rattle.row_board.proofs.Entries.{open_in_row, open_nowhere}
+use Rattle.row_board.proofs.Keeping.{open_in_row, open_nowhere}
 use Rattle.row_board.proofs.rows.RowBoard.is_open.Goals as goal
 
 pub returns-in_default : goal.returns-in_default

@@ -9,7 +9,7 @@ use Rattle.row_board.specs.Boards.{rows_of, open_asks}
 use Rattle.row_board.specs.Entries.{asks_of}
 use Rattle.row_board.specs.Rows.{fresh, with_ask}
 use Rattle.row_board.specs.declared.rows.RowBoard.{RowBoard}
-use Rattle.row_board.proofs.Entries.{Kept, Room, room_for, row_absent, room_in_order, set_rows, push_rows}
+use Rattle.row_board.proofs.Keeping.{Kept, Room, room_for, row_absent, room_in_order, set_rows, push_rows}
 use Rattle.row_board.proofs.rows.RowBoard.open.Goals as goal
 
 kept_by : (s : RowBoard) → Kept (rows_of s)
