@@ -76,10 +76,10 @@ module _ {R : Type 0} {g : viewable.Ghosts R} (sort : R → Kind) (L : ℕ) (pos
   module _ (x : R) (t : Values R g) (r' : Recorded sort L (evidence x ∷ h) t) (ok' : Lawful L t) where
     -- what evidence of a kind says, by what its own effects end
     tells_of : (k : Kind) → s.floor ≤ t.floor → t.replaying ≡ s.replaying → (before_planning L k x s).replaying ≡ s.replaying
-      → ((v : ℕ) → bare L v s ≡ true → list_any (ends (opened v Background None)) (taken_effects L k x (seen L (g.viewed x) s)) ≡ not (bare L v t))
-      → ((a : Ask) (v : ℕ) (seat : Option ℕ) → settled L a v s ≡ false → list_any (ends (opened v (Ancestry a) seat)) (taken_effects L k x (seen L (g.viewed x) s)) ≡ settled L a v t)
-      → ((v : ℕ) → bare L v t ≡ true → has_failed v t ≡ has_failed v s)
-      → Tells L s t (updated_effects L k x s)
+        → ((v : ℕ) → bare L v s ≡ true → list_any (ends (opened v Background None)) (taken_effects L k x (seen L (g.viewed x) s)) ≡ not (bare L v t))
+        → ((a : Ask) (v : ℕ) (seat : Option ℕ) → settled L a v s ≡ false → list_any (ends (opened v (Ancestry a) seat)) (taken_effects L k x (seen L (g.viewed x) s)) ≡ settled L a v t)
+        → ((v : ℕ) → bare L v t ≡ true → has_failed v t ≡ has_failed v s)
+        → Tells L s t (updated_effects L k x s)
     tells_of k floor on before background ancestry failed = record {
       floor = floor;
       low = ok'.sound.floor_finalized;
