@@ -42,5 +42,11 @@ million() {
 # A longer script: what waits after each offer, and what comes out. Its last part has lines that are no command.
 expect 'the queue' 1 "$(<tests/member/queue.out)" <tests/member/queue.in
 
-((bad == 0)) && echo 'tests/member.sh: 14 scripts, all as expected'
+# What stands in a buffer until the end, and then cannot be written, is told too.
+if printf 'term 4 5\n' | "$program" >/dev/full 2>/dev/null; then
+    echo 'a full device: status 0' >&2
+    bad=1
+fi
+
+((bad == 0)) && echo 'tests/member.sh: 15 scripts, all as expected'
 exit "$bad"
