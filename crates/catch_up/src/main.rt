@@ -1,7 +1,13 @@
 //! A member that was away rejoins: over each board with a peer that holds all, and once with a peer that lacks something.
 #![tactic(auto)]
 
-use anyhow::anyhow;
+ghost use Rattle.std.specs.Prelude.{IfOk};
+ghost use Rattle.catch_up.specs.Stories.{here, Story, StoryOn, Shown};
+ghost use Rattle.list_board.specs.Lists.{asks_of};
+ghost use Rattle.one_member.specs.Making.{Made};
+ghost use Rattle.peer_rounds.specs.Rounds.{Wrote};
+ghost use Rattle.row_board.specs.Boards.{open_asks};
+
 use board::{Ask, Board, Lent, Open, PLACES};
 use catching_up::{Entry, catch_up, fresh, replay, tell};
 use list_board::ListBoard;
@@ -11,6 +17,7 @@ use places::Places;
 use record::Kind;
 use row_board::{Row, RowBoard};
 use std::alloc::Global;
+use std::io;
 use std::io::{BufWriter, Write};
 
 /// What the member wrote down before it was away: a view that passed, the end of a term, and a view that failed.
@@ -42,7 +49,9 @@ const RECORD: [Entry; 12] = [
 const NEWS: Entry = Entry::Evidence(Kind::Notarization, 41);
 
 /// Terms of four views, epoch 7, and four seats of which three are a quorum.
-fn admitted() -> anyhow::Result<Admitted> {
+fn admitted() -> Admitted
+    ensures { Made here result }
+{
     let setup = Setup {
         term_length: 4,
         epoch: 7,
@@ -50,7 +59,7 @@ fn admitted() -> anyhow::Result<Admitted> {
         quorum: 3,
         board: BoardKind::Rows,
     };
-    admit(setup).map_err(|refusal| anyhow!("{refusal}"))
+    admit(setup).unwrap()
 }
 
 /// A member rejoins over one board, and asks a peer over another, which holds this record.
@@ -59,50 +68,61 @@ fn story<W: Write, B: Board + Drop, C: Board + Drop>(
     heap: Global,
     own: B,
     others: C,
-    record: &[Entry],
-) -> anyhow::Result<()> {
-    let admitted = admitted()?;
-    let (mut places, mut lent) = (Places::new(heap)?, Places::new(heap)?);
+    entries: &[Entry],
+) -> io::Result<()>
+    ensures { IfOk result (λ _. Wrote (W.Write.contents out.old) (W.Write.contents out.new) (Story B.asks C.asks own others entries.now)) }
+{
+    let admitted = admitted();
+    let (mut places, mut lent) = (Places::new(), Places::new());
     let mut member = fresh(&mut places, admitted, own);
     let mut peer = fresh(&mut lent, admitted, others);
     writeln!(out, "the peer")?;
-    replay(out, &mut peer, record)?;
+    replay(out, &mut peer, entries)?;
     tell(out, &peer)?;
     writeln!(out, "the member")?;
     catch_up(out, heap, &mut member, &peer, &JOURNAL, NEWS)?;
     Ok(())
 }
 
-fn on_rows<W: Write>(out: &mut W, heap: Global, record: &[Entry]) -> anyhow::Result<()> {
-    let mut own = vec![in heap; Row::new(0); PLACES]?;
-    let mut others = vec![in heap; Row::new(0); PLACES]?;
-    let lent = Lent::test(own.as_mut_slice()).unwrap();
-    let places = Lent::test(others.as_mut_slice()).unwrap();
+/// The story over boards of rows.
+fn on_rows<W: Write>(out: &mut W, heap: Global, entries: &[Entry]) -> io::Result<()>
+    ensures { IfOk result (λ _. Wrote (W.Write.contents out.old) (W.Write.contents out.new) (StoryOn open_asks entries.now)) }
+{
+    let mut own = [Row::new(0); PLACES];
+    let mut others = [Row::new(0); PLACES];
+    let lent = Lent::test(&mut own).unwrap();
+    let places = Lent::test(&mut others).unwrap();
     story(
         out,
         heap,
         RowBoard::new(lent),
         RowBoard::new(places),
-        record,
+        entries,
     )
 }
 
-fn on_list<W: Write>(out: &mut W, heap: Global, record: &[Entry]) -> anyhow::Result<()> {
+/// The story over boards in order of arrival.
+fn on_list<W: Write>(out: &mut W, heap: Global, entries: &[Entry]) -> io::Result<()>
+    ensures { IfOk result (λ _. Wrote (W.Write.contents out.old) (W.Write.contents out.new) (StoryOn asks_of entries.now)) }
+{
     let unused = Open::new(0, Ask::Background, None);
-    let mut own = vec![in heap; unused; PLACES]?;
-    let mut others = vec![in heap; unused; PLACES]?;
-    let lent = Lent::test(own.as_mut_slice()).unwrap();
-    let places = Lent::test(others.as_mut_slice()).unwrap();
+    let mut own = [unused; PLACES];
+    let mut others = [unused; PLACES];
+    let lent = Lent::test(&mut own).unwrap();
+    let places = Lent::test(&mut others).unwrap();
     story(
         out,
         heap,
         ListBoard::new(lent),
         ListBoard::new(places),
-        record,
+        entries,
     )
 }
 
-fn run<W: Write>(out: &mut W, heap: Global) -> anyhow::Result<()> {
+/// Tells it three times.
+fn run<W: Write>(out: &mut W, heap: Global) -> io::Result<()>
+    ensures { IfOk result (λ _. Wrote (W.Write.contents out.old) (W.Write.contents out.new) Shown) }
+{
     writeln!(out, "== a board of rows, and a peer that holds all")?;
     on_rows(out, heap, &RECORD)?;
     writeln!(

@@ -1,7 +1,6 @@
 ghost use Rattle.std.specs.Prelude.{◌≡◌, ◌≤◌, true, [], None};
 ghost use Rattle.peer_rounds.specs.Lives.{Lived};
 ghost use Rattle.effects.specs.Lists.{entries, places as places_in};
-ghost use Rattle.places.specs.Enough.{Enough};
 ghost use Rattle.queue.specs.Pendings.{queue_of};
 ghost use Rattle.state.specs.States.{held, term, epoch_of, fits};
 ghost use Rattle.store.specs.Fresh.{fresh};
@@ -18,8 +17,8 @@ pub fn fresh<B: Board>(places: &mut Places, admitted: Admitted, board: B) -> Mem
     ensures board { result.board ≡ board }
     ensures empty { entries result.effects ≡ [] }
     ensures queue { queue_of result.queue ≡ record { finalization = None; messages = [] } }
-    ensures fits { Enough places.old → fits result.resolver.calls.state ≡ true }
-    ensures room { Enough places.old → 256 ≤ places_in result.effects }
+    ensures fits { fits result.resolver.calls.state ≡ true }
+    ensures room { 256 ≤ places_in result.effects }
     ensures lives { B.asks board ≡ [] → Lived B.asks result }
 {
     Member::new(admitted, places.lend(), board)

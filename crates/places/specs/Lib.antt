@@ -1,1 +1,1 @@
-pub mod Enough
+pub mod Unused

@@ -1,4 +1,3 @@
-pub mod Beginnings
 pub mod Buffers
 pub mod Makers
 pub mod Told

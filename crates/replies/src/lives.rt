@@ -24,9 +24,9 @@ fn on_rows<'a, A: Asker<'a>>(
     ensures left { IfOk result (λ _. A.left asker.new ≤ A.left asker.old) }
     ensures fewer { IfOk result (λ next. IsSome next → A.left asker.new < A.left asker.old) }
 {
-    let mut places = Places::new(heap)?;
-    let mut rows = vec![in heap; Row::new(0); PLACES]?;
-    let lent = Lent::test(rows.as_mut_slice()).unwrap();
+    let mut places = Places::new();
+    let mut rows = [Row::new(0); PLACES];
+    let lent = Lent::test(&mut rows).unwrap();
     let mut member = Member::new(admitted, places.lend(), RowBoard::new(lent));
     with_member(heap, asker, &mut member)
 }
@@ -41,9 +41,9 @@ fn on_list<'a, A: Asker<'a>>(
     ensures left { IfOk result (λ _. A.left asker.new ≤ A.left asker.old) }
     ensures fewer { IfOk result (λ next. IsSome next → A.left asker.new < A.left asker.old) }
 {
-    let mut places = Places::new(heap)?;
-    let mut list = vec![in heap; Open::new(0, Ask::Background, None); PLACES]?;
-    let lent = Lent::test(list.as_mut_slice()).unwrap();
+    let mut places = Places::new();
+    let mut list = [Open::new(0, Ask::Background, None); PLACES];
+    let lent = Lent::test(&mut list).unwrap();
     let mut member = Member::new(admitted, places.lend(), ListBoard::new(lent));
     with_member(heap, asker, &mut member)
 }

@@ -1,4 +1,4 @@
-ghost use Rattle.std.specs.Prelude.{◌≡◌, ◌/◌, length, IfOk};
+ghost use Rattle.std.specs.Prelude.{◌≡◌, ◌/◌, length};
 ghost use Rattle.stepping.specs.Runs.{AllCalled, Stepped, Passed, Ran, Whole};
 ghost use Rattle.stepping.specs.Tallies.{none_yet};
 
@@ -7,7 +7,6 @@ use board::Board;
 use places::Places;
 use queue::{Message, PLACES};
 use record::LENGTH;
-use std::alloc::{AllocError, Global};
 use steps::{Step, Stream};
 
 /// The most messages that can wait: a finalization, and the others.
@@ -75,14 +74,14 @@ impl<'a, B: Board> Member<'a, B> {
 }
 
 /// Runs a stream on a fresh member with this board.
-pub fn run<B: Board + Drop>(heap: Global, stream: &Stream, board: B) -> Result<Line, AllocError>
-    ensures { IfOk result (Whole B.asks stream.now.header stream.now.steps.now board) }
+pub fn run<B: Board + Drop>(stream: &Stream, board: B) -> Line
+    ensures { Whole B.asks stream.now.header stream.now.steps.now board result }
 {
-    let mut places = Places::new(heap)?;
+    let mut places = Places::new();
     let mut member = Member::new(&stream.header, places.lend(), board);
     let tally = member.run(stream);
-    Ok(Line {
+    Line {
         tally,
         open_asks: member.open_asks(),
-    })
+    }
 }

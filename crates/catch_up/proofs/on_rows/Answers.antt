@@ -1,13 +1,27 @@
-use Rattle.std.proofs.Common.{Result, Ok, Err, MatchResult, refl, arith}
-use Rattle.std.specs.Result.{IsOk}
+use Rattle.std.proofs.Common.{ap}
+use Rattle.board.specs.Sorting.{sorted}
+use Rattle.catch_up.specs.Stories.{Story, StoryOn}
+use Rattle.catch_up.proofs.Writing.{if_ok}
+use Rattle.peer_rounds.specs.Rounds.{Wrote}
+use Rattle.row_board.specs.Boards.{open_asks}
+use Rattle.row_board.specs.Entries.{asks_of}
 use Rattle.catch_up.proofs.on_rows.Goals as goal
 
-ok_when : {A E : Type 0} (r : Result A E) (P : A → Type 0) (Q : E → Type 0) → MatchResult r P Q → ((e : E) → Q e → ⊥) → IsOk r
-ok_when (Ok x) P Q m n = refl
-ok_when (Err e) P Q m n = absurd (n e m)
-
-pub unwrap-lent-requires : goal.unwrap-lent-requires
-unwrap-lent-requires g c = ok_when c.test.result _ _ c.test.ensures (λ e q. omega (arith, q.0, c.as_mut_slice.ensures.len, c.in_ok-own.ensures.len))
-
-pub unwrap-places-requires : goal.unwrap-places-requires
-unwrap-places-requires g c = ok_when c.test-2.result _ _ c.test-2.ensures (λ e q. omega (arith, q.0, c.as_mut_slice-2.ensures.len, c.in_ok-others.ensures.len))
+pub returns : goal.returns
+unfolding sorted
+returns g c =
+    let u = g.W.Write.contents c.args.out.now in
+    let v = g.W.Write.contents c.story.new.out in
+    if_ok c.story.result (Wrote u v (Story open_asks open_asks c.new.result c.new-2.result c.args.entries.now)) (Wrote u v (StoryOn open_asks c.args.entries.now))
+    (λ w. record {
+      text = w.text;
+      written = w.written;
+      told = record {
+        own = c.new.result;
+        others = c.new-2.result;
+        none_open = ap (λ rows. sorted (asks_of rows)) c.new.ensures;
+        none_of_theirs = ap (λ rows. sorted (asks_of rows)) c.new-2.ensures;
+        story = w.told;
+      };
+    })
+    c.story.ensures

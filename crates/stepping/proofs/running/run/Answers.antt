@@ -5,7 +5,6 @@ pub returns : goal.returns
 returns g c =
     let made = c.new-member.ensures in
     let lent = c.lend.ensures in
-    let enough = c.in_ok-places.ensures in
     record {
       first = c.new-member.result;
       last = c.run-tally.new.self;
@@ -18,8 +17,8 @@ returns g c =
         board_is = made.board;
         no_effects = made.empty;
         nothing_waits = made.queue;
-        fit = made.fits ∙ lent.memory enough;
-        room = subst (λ list. 256 ≤ length list) (sym made.list) (lent.effects enough);
+        fit = made.fits ∙ lent.memory;
+        room = subst (λ list. 256 ≤ length list) (sym made.list) lent.effects;
       };
       ran = c.run-tally.ensures;
       open_asks = c.open_asks.ensures;
