@@ -1,7 +1,7 @@
 //! Which of a table's nullifications covers a view.
 #![tactic(auto)]
 
-ghost use Rattle.std.specs.Prelude.{◌≡◌, true, List, is_some};
+ghost use Rattle.std.specs.Prelude.{◌≡◌, List, is_some};
 ghost use Rattle.table.specs.Tables.{entries};
 ghost use Rattle.terms.specs.Terms.{views as views_of};
 ghost use Rattle.cover.specs.Covers.{cover, covered, HighestCover, BySomeRow};

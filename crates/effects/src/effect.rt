@@ -1,4 +1,4 @@
-ghost use Rattle.std.specs.Prelude.{◌++◌, Some};
+ghost use Rattle.std.specs.Prelude.{Some};
 ghost use Rattle.effects.specs.Shown.{kind_name, reason_name, effect_text};
 
 use std::fmt;

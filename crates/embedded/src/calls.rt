@@ -1,4 +1,4 @@
-ghost use Rattle.std.specs.Prelude.{◌≡◌, ◌≤◌, true, false, MatchResult};
+ghost use Rattle.std.specs.Prelude.{◌≡◌, ◌≤◌, false, MatchResult};
 ghost use Rattle.board.specs.Left.{shown};
 ghost use Rattle.effects.specs.Lists.{entries, places as places_of};
 ghost use Rattle.row_board.specs.Boards.{open_asks};

@@ -1,5 +1,5 @@
 ghost use Rattle.std.specs.Prelude.{◌≡◌, cond, Ok as Fine};
-ghost use Rattle.terms.specs.Terms.{views as views_of, start, covering};
+ghost use Rattle.terms.specs.Terms.{start, covering};
 ghost use Rattle.embedded.specs.Terms.{told as tells, with_length, end_of, next_of};
 
 use crate::Told;

@@ -23,7 +23,7 @@ use Rattle.views.specs.declared.Viewable as viewable
 use Rattle.state.proofs.Sounds.{Rises as Rise}
 use Rattle.history.specs.Calls.{Call, evidence, requested, target, settles, gaps}
 use Rattle.history.specs.Rules as rule
-use Rattle.history.specs.Rules.{view_in, request_in, all_in, how_many}
+use Rattle.history.specs.Rules.{view_in, request_in, all_in}
 use Rattle.history.proofs.Asks.{Asked}
 use Rattle.history.proofs.Counted.{names_nullified, names_notarized, names_failed, names_passed, names_requested, nullified_if_found, gaps_alike}
 use Rattle.history.proofs.Counts.{of_rank, rank_low, rows_counted, asks_counted}

@@ -33,7 +33,7 @@ use Rattle.state.proofs.Facts.{rises_of}
 use Rattle.store.specs.Fresh.{fresh}
 use Rattle.store.specs.Values.{Values, finalized as finalized_in, is_covered}
 use Rattle.views.specs.declared.Viewable as viewable
-use Rattle.history.specs.Calls.{Call, evidence, verdict, marker, request, some, highest, is_marker, is_request, is_open_request, requested, first_seat, target, marked, covered, settles, needed, serves}
+use Rattle.history.specs.Calls.{Call, evidence, verdict, marker, request, some, is_marker, is_request, is_open_request, requested, first_seat, target, settles, needed, serves}
 use Rattle.history.specs.Calls as words
 use Rattle.history.specs.Events.{Event, updated, certified, replayed, resolved, delivered, settled, produced, calls, accepted, Use, Answers, AllAnswer}
 use Rattle.history.specs.Promises.{Promises, Law, Point, if_asked}

@@ -8,7 +8,7 @@ ghost use Rattle.resolver.specs.Calls.{answer_of, Taken, Judged, Ended, request_
 ghost use Rattle.state.specs.Answers.{refused_if, too_few, if_read, evidence_answer, verdict_answer, marker_answer};
 ghost use Rattle.state.specs.Calls.{Unchanged};
 ghost use Rattle.state.specs.States.{held, term, epoch_of, fits as suits, enough};
-ghost use Rattle.state.specs.declared.fault.Fault.TheVariants.{Terms, TooFewPlaces as Cramped};
+ghost use Rattle.state.specs.declared.fault.Fault.TheVariants.{TooFewPlaces as Cramped};
 ghost use Rattle.store.specs.Fresh.{fresh};
 ghost use Rattle.terms.specs.Terms.{views as views_of};
 

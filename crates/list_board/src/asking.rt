@@ -1,4 +1,4 @@
-ghost use Rattle.std.specs.Prelude.{◌≡◌, ◌+◌, ◌<◌, ◌≤◌, [], ◌∷◌, ◌++◌, not, length, take, filter, None, true, false, ◌==◌, slice_index_or};
+ghost use Rattle.std.specs.Prelude.{◌≡◌, ◌+◌, ◌<◌, ◌≤◌, [], not, length, take, filter, None, true, false, ◌==◌, slice_index_or};
 ghost use Rattle.std.specs.List.{position};
 ghost use Rattle.board.specs.Asks.{is_background, place, place_of, retires};
 ghost use Rattle.board.specs.Boards.{is_open, backgrounds, ancestries};

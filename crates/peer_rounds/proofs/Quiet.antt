@@ -1,5 +1,5 @@
 -- A member that has nothing open lacks nothing.
-use Rattle.std.proofs.Common.{◌≡◌, ℕ, zero, suc, ◌+◌, ◌-◌, ◌<◌, ◌≤◌, true, false, List, [], ◌∷◌, Some, None, refl, sym, subst, inl, inr, ◌∙◌, arith}
+use Rattle.std.proofs.Common.{◌≡◌, ℕ, ◌+◌, ◌<◌, ◌≤◌, true, false, List, [], ◌∷◌, Some, None, refl, sym, subst, inl, inr, ◌∙◌, arith}
 use Rattle.std.proofs.lemmas.Bool.{cases_Bool, cases_lt}
 use Rattle.std.proofs.lemmas.Grind.{common_steps}
 use Rattle.board.specs.Sorting.{lookup}
@@ -17,7 +17,6 @@ use Rattle.record.specs.declared.kind.Kind.{Kind}
 use Rattle.state.specs.Settled.{settled}
 use Rattle.state.specs.States.{held, term}
 use Rattle.state.specs.declared.state.State.{State}
-use Rattle.store.specs.Values.{Values}
 use Rattle.terms.proofs.Laws.{own_start, starts_itself, covers_on}
 use Rattle.terms.specs.Terms.{start}
 use Rattle.views.specs.declared.Viewable as viewable

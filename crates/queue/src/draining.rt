@@ -1,4 +1,4 @@
-ghost use Rattle.std.specs.Prelude.{◌≡◌, ◌+◌, ◌-◌, ◌<◌, ◌≤◌, ◌&&◌, ◌++◌, [], length, take, drop, min, is_some, is_none, ◌==◌};
+ghost use Rattle.std.specs.Prelude.{◌≡◌, ◌+◌, ◌-◌, ◌<◌, ◌≤◌, ◌&&◌, ◌++◌, length, take, drop, min, is_some, is_none, ◌==◌};
 ghost use Rattle.slot.specs.Slots.{held};
 ghost use Rattle.queue.specs.Queues.{drained};
 ghost use Rattle.queue.specs.Pendings.{waiting_of, queue_of};

@@ -1,7 +1,7 @@
 //! What a refusal tells a host: a number and the layer that it arose in.
 #![tactic(auto)]
 
-ghost use Rattle.std.specs.Prelude.{◌++◌, Some};
+ghost use Rattle.std.specs.Prelude.{Some};
 ghost use Rattle.refusals.specs.Shown.{layer_name, refusal_text};
 
 use std::fmt;

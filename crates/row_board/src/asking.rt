@@ -1,8 +1,8 @@
-ghost use Rattle.std.specs.Prelude.{◌≡◌, ℕ, ◌+◌, ◌<◌, ◌≤◌, true, false, [], ◌∷◌, ◌++◌, not, map, length, take, drop, filter, None, ◌==◌, slice_index_or, slice_set, nat_le};
+ghost use Rattle.std.specs.Prelude.{◌≡◌, ◌+◌, ◌<◌, ◌≤◌, true, false, [], ◌++◌, not, map, length, take, drop, filter, None, ◌==◌, slice_index_or, slice_set, nat_le};
 ghost use Rattle.std.specs.List.{position};
 ghost use Rattle.board.specs.Asks.{is_background, place, place_of};
-ghost use Rattle.board.specs.Boards.{is_open, opened, backgrounds, ancestries, first_of};
-ghost use Rattle.board.specs.Sorting.{lookup, placed};
+ghost use Rattle.board.specs.Boards.{is_open, opened, backgrounds, ancestries};
+ghost use Rattle.board.specs.Sorting.{placed};
 ghost use Rattle.board.proofs.Laws.{in_order};
 ghost use Rattle.row_board.specs.Boards.{rows_of, open_asks};
 ghost use Rattle.row_board.specs.Entries.{asks_of, nearest, some_of};

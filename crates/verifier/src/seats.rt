@@ -1,7 +1,7 @@
-ghost use Rattle.std.specs.Prelude.{◌≡◌, ◌^◌, ◌≤◌, true, false, take, drop, length, MatchResult, nat_lt};
+ghost use Rattle.std.specs.Prelude.{◌≡◌, ◌^◌, ◌≤◌, true, false, length, MatchResult, nat_lt};
 ghost use Rattle.record.specs.Certificates.{proof_in};
 ghost use Rattle.record.specs.Numbers.{number as number_in, zeros as all_zero};
-ghost use Rattle.verifier.specs.Seats.{allowed, names_quorum, seats_accept};
+ghost use Rattle.verifier.specs.Seats.{allowed, seats_accept};
 ghost use Rattle.verifier.specs.declared.fault.Fault.TheVariants.{NoQuorum};
 
 use crate::{Fault, Verifier};
