@@ -1,15 +1,18 @@
 """Plants bugs in the functions of crates, and tells which of them the contracts let through.
 
 usage: python3 tools/bugs [--in FOLDER] [--each N] [--private N] [--more FILE] [--out FILE] CRATE..
+       python3 tools/bugs --edits [--in FOLDER] [--only WORD] CRATE..
        python3 tools/bugs --list CRATE..
        python3 tools/bugs --table FILE..
 
 The crates are changed in FOLDER, a clone of this repository (target/bugs, which is made if it is not there). Each public
-function gets N bugs that compile (3), each private one --private (0), its must-fail edits counted with them. --more names a file of bugs that are written by
-hand and come first: lines of CRATE, FUNCTION, OLD and NEW, parted by tabs, where OLD stands in the function once.
+function gets N bugs that compile (3), each private one --private (0), its must-fail edits counted with them. --more names
+a file of bugs that are written by hand and come first: lines of CRATE, FUNCTION, OLD and NEW, parted by tabs, where OLD
+stands in the function once.
 
 What came of each bug is added to FILE (target/bugs.jsonl), a line each; what stands there already is not tried again.
---list shows how many bugs there are to choose from. --table writes a table of what stands in such files.
+--edits tries the must-fail edits (those whose names contain WORD), and tells of each function that they turn whether it is
+refused for a fact. --list shows how many bugs there are to choose from. --table writes a table of what stands in such files.
 """
 
 import argparse
@@ -18,6 +21,7 @@ import pathlib
 import subprocess
 
 import telling
+from edits import try_edits
 from trying import Crate
 
 
@@ -28,6 +32,8 @@ def arguments():
     parser.add_argument("--private", type=int, default=0)
     parser.add_argument("--more")
     parser.add_argument("--out", default="target/bugs.jsonl")
+    parser.add_argument("--edits", action="store_true")
+    parser.add_argument("--only", default="")
     parser.add_argument("--list", action="store_true")
     parser.add_argument("--table", action="store_true")
     parser.add_argument("names", nargs="+")
@@ -60,6 +66,12 @@ def main():
         crate = Crate(root, name, args.each, args.private, more[name])
         if args.list:
             crate.show()
+            continue
+        if args.edits:
+            try:
+                try_edits(crate, args.only)
+            finally:
+                crate.restore()
             continue
         with open(args.out, "a", encoding="utf-8") as out:
             try:

@@ -113,14 +113,31 @@ def indent_of(line):
     return len(line) - len(line.lstrip())
 
 
-def edits_of(folder):
-    """How many must-fail edits each function of a crate has, by name."""
-    found = collections.Counter()
-    for edit in folder.glob("must-fail/*.edit"):
-        text = edit.read_text()
-        file, old = (re.search(rf"^{word}: (.+)$", text, re.M)[1] for word in ("file", "old"))
-        lines = (folder / file).read_text().split("\n")
+def pairs_of(edit):
+    """What a must-fail edit changes: a file, a text that stands in it once, and the text that takes its place."""
+    file = old = None
+    for line in edit.read_text(encoding="utf-8").split("\n"):
+        word, _, text = line.partition(":")
+        text = text.removeprefix(" ")
+        if word == "file":
+            file = text.strip()
+        elif word == "old":
+            old = text
+        elif word == "new":
+            yield file, old, text
+
+
+def turned_by(edit, folder):
+    """The function that each pair of an edit turns, where it is in one."""
+    for file, old, _ in pairs_of(edit):
+        lines = (folder / file).read_text(encoding="utf-8").split("\n")
         at = next((n for n, line in enumerate(lines) if old in line), -1)
         for function in functions_of(file, lines) if file.endswith(".rt") else []:
-            found[str(function)] += function.head <= at <= function.last
-    return found
+            if function.head <= at <= function.last:
+                yield str(function)
+
+
+def edits_of(folder):
+    """How many must-fail edits turn each function of a crate, by name."""
+    edits = folder.glob("must-fail/*.edit")
+    return collections.Counter(function for edit in edits for function in turned_by(edit, folder))

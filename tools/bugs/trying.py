@@ -66,8 +66,11 @@ class Crate:
         lines = {file: text.split("\n") for file, text in self.texts.items()}
         for function, bug in chosen.items():
             lines[function.file][bug.line] = bug.new
-        for file, text in lines.items():
-            file.write_text("\n".join(text))
+        self.write({file: "\n".join(text) for file, text in lines.items()})
+
+    def write(self, texts):
+        for file, text in texts.items():
+            file.write_text(text)
 
     def check(self, *arguments):
         words = ["rt", "check", "--jobs", "1", *arguments]
