@@ -1,11 +1,11 @@
 -- What the program writes: a member that rejoins, told once for each board and once with a peer that lacks something.
-use Rattle.std.specs.Prelude.{◌≡◌, ℕ, List, [], ◌++◌, take, codes, None}
+use Rattle.std.specs.Prelude.{◌≡◌, ℕ, ◌≤◌, true, List, [], ◌++◌, take, codes, None}
 use Rattle.board.specs.declared.open.Open.{Open}
 use Rattle.catch_up.specs.declared.TheConstants.{JOURNAL, NEWS, RECORD}
 use Rattle.catching_up.specs.Catching.{CaughtUp}
 use Rattle.catching_up.specs.Telling.{told_text, Replayed}
 use Rattle.catching_up.specs.declared.entry.Entry.{Entry}
-use Rattle.effects.specs.Lists.{entries}
+use Rattle.effects.specs.Lists.{entries, places}
 use Rattle.list_board.specs.Lists.{asks_of}
 use Rattle.list_board.specs.declared.list.ListBoard.{ListBoard}
 use Rattle.one_member.specs.Making.{Made}
@@ -17,7 +17,7 @@ use Rattle.peer_rounds.specs.declared.running.Summary.{Summary}
 use Rattle.queue.specs.Pendings.{queue_of}
 use Rattle.row_board.specs.Boards.{open_asks}
 use Rattle.row_board.specs.declared.rows.RowBoard.{RowBoard}
-use Rattle.state.specs.States.{held, term, epoch_of}
+use Rattle.state.specs.States.{held, term, epoch_of, fits}
 use Rattle.store.specs.Fresh.{fresh}
 use Rattle.terms.specs.Terms.{views}
 
@@ -25,7 +25,7 @@ use Rattle.terms.specs.Terms.{views}
 abbrev pub here : Setup
 here = record { term_length = 4; epoch = 7; seats = 4; quorum = 3; board = Rows }
 
--- a member with nothing recorded
+-- a member with nothing recorded, and enough memory
 pub record Begins {B : Type 0} (a : Admitted) (board : B) (m : Member B) : Type 0 where
   pub values : held m.resolver.calls.state ≡ fresh
   pub term_length : term m.resolver.calls.state ≡ views a.term_length
@@ -35,6 +35,8 @@ pub record Begins {B : Type 0} (a : Admitted) (board : B) (m : Member B) : Type 
   pub board_is : m.board ≡ board
   pub no_effects : entries m.effects ≡ []
   pub nothing_waits : queue_of m.queue ≡ record { finalization = None; messages = [] }
+  pub fit : fits m.resolver.calls.state ≡ true
+  pub room : 256 ≤ places m.effects
 
 -- the peer takes in what it holds, and then the member catches up
 pub record Story {B C : Type 0} (asks : B → List Open) (theirs : C → List Open) (own : B) (others : C) (es : List Entry) (text : List ℕ) : Type 0 where

@@ -40,6 +40,8 @@ returns g c =
           board_is = theirs.board;
           no_effects = theirs.empty;
           nothing_waits = theirs.queue;
+          fit = theirs.fits;
+          room = theirs.room;
         };
         peer = peer;
         first = r.text;
@@ -54,6 +56,8 @@ returns g c =
           board_is = own.board;
           no_effects = own.empty;
           nothing_waits = own.queue;
+          fit = own.fits;
+          room = own.room;
         };
         last = c.catch_up.new.member;
         summary = c.in_ok-catch_up.field-0;
