@@ -8,13 +8,13 @@ use Rattle.terms.specs.Terms.{covering}
 use Rattle.cover.specs.Covers.{if_covering, covered, HighestCover, BySomeRow}
 
 module _ {R : Type 0} (at : R → ℕ) (L v : ℕ) (rs : List R) (ends : ToTheEnd L) where
-  nothing_below : Nearest at v rs None → HighestCover at L v rs None
+  pub nothing_below : Nearest at v rs None → HighestCover at L v rs None
   nothing_below near u t = near u ((ends u v).0 t).0
 
-  this_covers : (r : R) → Nearest at v rs (Some r) → covering L (at r) v ≡ true → HighestCover at L v rs (Some r)
+  pub this_covers : (r : R) → Nearest at v rs (Some r) → covering L (at r) v ≡ true → HighestCover at L v rs (Some r)
   this_covers r near t = (t, near.1, λ u h s. near.2 u h ((ends u v).0 s).0)
 
-  another_term : CoversBetween L → (r : R) → Nearest at v rs (Some r) → covering L (at r) v ≡ false → HighestCover at L v rs None
+  pub another_term : CoversBetween L → (r : R) → Nearest at v rs (Some r) → covering L (at r) v ≡ false → HighestCover at L v rs None
   another_term between r near f u t = elim (cases_lt (at r) u) [ inl h ↦ near.2 u h ((ends u v).0 t).0 | inr h ↦ absurd (both_ways _ f (between u (at r) v h near.0 t)) ]
 
   -- the nearest row is the highest that covers, or none is

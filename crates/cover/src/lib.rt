@@ -11,6 +11,7 @@ use terms::TermLength;
 use views::{View, Viewable};
 
 /// The highest nullification that covers `view`, if there is one.
+#[inline(always)]
 pub fn covering<R: Copy + Viewable>(
     nullifications: &Table<R>,
     length: TermLength,

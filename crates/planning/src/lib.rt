@@ -19,6 +19,7 @@ use views::{View, Viewable};
 
 /// The first anchor from `low` on that is not below `current`.
 #[tactic(auto, using(crate::proofs::Cursors::lands_here, crate::proofs::Cursors::lands_past), unfolding(crate::specs::Gaps::first_start))]
+#[inline(always)]
 pub fn landing(term_length: TermLength, low: View, current: View) -> Result<View, Fault>
     ensures { MatchResult result (λ a. (current ≤ 2 ^ 62) × (a ≡ landing (views_of term_length) low current)) (λ f. (2 ^ 62 < current) × (f ≡ ViewTooHigh)) }
 {

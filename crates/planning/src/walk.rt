@@ -19,6 +19,7 @@ pub(crate) struct Gaps<'t, 'a, R: Viewable> {
 }
 
 /// The next term start, for a view of which it is told.
+#[inline(always)]
 pub(crate) fn following(term_length: TermLength, view: View) -> View
     requires { view ≤ 2 ^ 62 }
     ensures { result ≡ next (views_of term_length) view }
@@ -30,6 +31,7 @@ impl<'t, 'a, R: Copy + Viewable> Gaps<'t, 'a, R> {
     ghost use Rattle.planning.specs.Left.{left, gaps_in};
 
     /// The gaps from `low` up to `current`.
+    #[inline(always)]
     pub(crate) fn new(
         nullifications: &'t Table<'a, R>,
         term_length: TermLength,
@@ -59,6 +61,7 @@ impl<'t, 'a, R: Copy + Viewable> Iterator for Gaps<'t, 'a, R> {
 
     ghost remaining = { item_count left };
 
+    #[inline(always)]
     fn next(&mut self) -> Option<View> {
         while self.anchor < self.current {
             let view = self.anchor;

@@ -178,7 +178,7 @@ module _ (c : Certificate) (w : Sized (proposal_in c) (proof_in c)) where
   fields : List ℕ
   fields = bytes_of 8 (proposal_in c).round.epoch ++ (bytes_of 8 (proposal_in c).round.view ++ (bytes_of 8 (proposal_in c).parent ++ ((proposal_in c).payload.0 ++ (proof_in c).0)))
 
-  written_read : reading (written c) ≡ Ok c
+  pub written_read : reading (written c) ≡ Ok c
   unfolding framed written fields
   written_read =
       let p = proposal_in c in

@@ -44,6 +44,7 @@ pub struct Header {
 
 impl Certificate {
     /// The kind, the epoch and the view.
+    #[inline(always)]
     pub fn header(&self) -> Header
         ensures { result ≡ header_of self.now }
     {

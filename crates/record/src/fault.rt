@@ -16,14 +16,22 @@ pub enum Fault {
     NullificationNotBlank = 4,
 }
 
-/// The number and the layer that a host is told.
+impl Fault {
+    /// The number and the layer that a host is told. A constant may hold it.
+    pub const fn refusal(self) -> Refusal
+        ensures { result ≡ refusal_of self }
+    {
+        Refusal {
+            number: self as u8,
+            layer: Layer::Record,
+        }
+    }
+}
+
 impl From<Fault> for Refusal {
     ghost from_gives = { λ fault r. r ≡ refusal_of fault };
 
     fn from(fault: Fault) -> Refusal {
-        Refusal {
-            number: fault as u8,
-            layer: Layer::Record,
-        }
+        fault.refusal()
     }
 }

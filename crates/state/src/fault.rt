@@ -39,14 +39,14 @@ impl From<record::Fault> for Fault {
     }
 }
 
-/// The number and the layer that a host is told.
-impl From<Fault> for Refusal {
-    ghost from_gives = { λ fault r. r ≡ refusal_of fault };
-
-    fn from(fault: Fault) -> Refusal {
-        let number = match fault {
-            Fault::Terms(fault) => return Refusal::from(fault),
-            Fault::Record(fault) => return Refusal::from(fault),
+impl Fault {
+    /// The number and the layer that a host is told. A constant may hold it.
+    pub const fn refusal(self) -> Refusal
+        ensures { result ≡ refusal_of self }
+    {
+        let number = match self {
+            Fault::Terms(fault) => return fault.refusal(),
+            Fault::Record(fault) => return fault.refusal(),
             Fault::TooFewPlaces => 13,
             Fault::NotANotarization => 8,
             Fault::ViewTooHigh => 5,
@@ -57,5 +57,13 @@ impl From<Fault> for Refusal {
             number,
             layer: Layer::State,
         }
+    }
+}
+
+impl From<Fault> for Refusal {
+    ghost from_gives = { λ fault r. r ≡ refusal_of fault };
+
+    fn from(fault: Fault) -> Refusal {
+        fault.refusal()
     }
 }

@@ -13,8 +13,9 @@ impl<'a, R: Copy + Viewable> State<'a, R> {
     {
         self.store
             .finalization
-            .get()
+            .peek()
             .filter(|finalization| view <= finalization.view())
+            .copied()
     }
 
     /// What passed at the floor, for a view that is not above it.

@@ -18,7 +18,7 @@ added_then es fs n x y z p free rest = added_both es fs x y z p (rest (omega (ar
 
 module _ {R : Type 0} {g : viewable.Ghosts R} (a b : Store R g) (s : Values R g) (p : Turned a b s) where
   -- what is told of the values after a turn
-  told_next : {X : Type 0} (f : ℕ → Values R g → X) → f (length_of b) (values b) ≡ f (length_of a) s
+  pub told_next : {X : Type 0} (f : ℕ → Values R g → X) → f (length_of b) (values b) ≡ f (length_of a) s
   told_next f = ap (λ n. f n (values b)) (ap views p.kept.length) ∙ ap (f (length_of a)) p.is
 
   pub low_next : Low s → Low (values b)

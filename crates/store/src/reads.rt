@@ -68,7 +68,7 @@ impl<'a, R: Copy + Viewable> Store<'a, R> {
     pub fn last_finalized(&self) -> View
         ensures { result ≡ finalized (values self.now) }
     {
-        self.finalization.get().map_or(0, |held| held.view())
+        self.finalization.peek().map_or(0, |held| held.view())
     }
 
     /// Whether `view` still needs a nullification: it is above the floor, and none covers it.

@@ -3,6 +3,7 @@ ghost use Rattle.table.specs.Rows.{Ascending, Resumable, lookup, holds, highest,
 ghost use Rattle.table.specs.Laws.{NothingFound, OfItsView, FoundItself, Nearest, OneMore, Counted, OneLess, OnlyKept, NoMore};
 
 use crate::ascending::rises;
+use crate::moves::{move_down, move_up};
 use crate::searching::first_kept;
 use crate::{From, Order, Past};
 use views::{View, Viewable};
@@ -55,6 +56,7 @@ impl<'a, R: Copy + Viewable> Table<'a, R> {
     }
 
     /// How many rows there are.
+    #[inline(always)]
     pub fn len(&self) -> usize
         ensures value { result ≡ length (entries self.now) }
         ensures bound { result ≤ capacity self.now }
@@ -71,6 +73,7 @@ impl<'a, R: Copy + Viewable> Table<'a, R> {
     }
 
     /// The rows, in ascending order of their views.
+    #[inline(always)]
     pub fn as_slice(&self) -> &[R]
         ensures rows { result.now ≡ entries self.now }
         ensures rises { Ascending R.Viewable.viewed result.now }
@@ -79,6 +82,7 @@ impl<'a, R: Copy + Viewable> Table<'a, R> {
     }
 
     /// How many rows an order does not keep. They stand below those that it keeps.
+    #[inline(always)]
     fn first_kept<O: Order>(&self, order: &O) -> usize
         ensures { Parts R.Viewable.viewed (O.Order.keeping order.now) (entries self.now) result }
     {
@@ -86,6 +90,7 @@ impl<'a, R: Copy + Viewable> Table<'a, R> {
     }
 
     /// Where the row of `view` stands, or else where it would.
+    #[inline(always)]
     fn find(&self, view: View) -> Result<usize, usize>
         ensures { MatchResult result (Here R.Viewable.viewed view (entries self.now)) (Gap R.Viewable.viewed view (entries self.now)) }
     {
@@ -98,6 +103,7 @@ impl<'a, R: Copy + Viewable> Table<'a, R> {
 
     /// The row of `view`, if there is one.
     #[tactic(auto, using(crate::proofs::Placing::lookup_present, crate::proofs::Placing::lookup_absent, crate::proofs::Laws::of_its_view))]
+    #[inline(always)]
     pub fn get(&self, view: View) -> Option<R>
         ensures value { result ≡ lookup R.Viewable.viewed view (entries self.now) }
         ensures of_its_view { OfItsView R.Viewable.viewed view result }
@@ -107,6 +113,7 @@ impl<'a, R: Copy + Viewable> Table<'a, R> {
     }
 
     /// Whether there is a row of `view`.
+    #[inline(always)]
     pub fn contains(&self, view: View) -> bool
         ensures { result ≡ holds R.Viewable.viewed view (entries self.now) }
     {
@@ -122,6 +129,7 @@ impl<'a, R: Copy + Viewable> Table<'a, R> {
     }
 
     /// The highest row at or below `view`, if there is one.
+    #[inline(always)]
     pub fn last_to(&self, view: View) -> Option<R>
         ensures value { result ≡ highest R.Viewable.viewed view (entries self.now) }
         ensures nearest { Nearest R.Viewable.viewed view (entries self.now) result }
@@ -148,7 +156,7 @@ impl<'a, R: Copy + Viewable> Table<'a, R> {
                 }
                 // Until the row stands, only those below it count.
                 self.len = at;
-                self.rows.copy_within(at..len, at + 1);
+                move_up(self.rows, at, len);
                 self.rows[at] = row;
                 self.len = len + 1;
             }
@@ -168,7 +176,7 @@ impl<'a, R: Copy + Viewable> Table<'a, R> {
         };
         let len = self.len;
         self.len = len - 1;
-        self.rows.copy_within(at + 1..len, at);
+        move_down(self.rows, at + 1, len, 1);
     }
 
     /// Removes the rows that an order does not keep.
@@ -181,6 +189,6 @@ impl<'a, R: Copy + Viewable> Table<'a, R> {
         let n = self.first_kept(order);
         let end = self.len;
         self.len = end - n;
-        self.rows.copy_within(n..end, 0);
+        move_down(self.rows, n, end, n);
     }
 }

@@ -4,6 +4,7 @@
 mod ascending;
 pub mod lent;
 pub mod mark;
+mod moves;
 pub mod order;
 mod searching;
 

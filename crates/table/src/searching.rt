@@ -1,5 +1,5 @@
-ghost use Rattle.std.specs.Prelude.{◌≡◌, ◌-◌, ◌/◌, ◌≤◌};
-ghost use Rattle.table.specs.Rows.{Ascending, Parts};
+ghost use Rattle.std.specs.Prelude.{◌≡◌, ◌+◌, ◌-◌, ◌/◌, ◌<◌, ◌≤◌, true, length, slice_index};
+ghost use Rattle.table.specs.Rows.{views, Ascending, Parts};
 ghost use Rattle.table.specs.Searching.{Between};
 
 use crate::Order;
@@ -46,6 +46,22 @@ impl Range {
         range.halved(rows, order).halved(rows, order)
     }
 
+    /// The half that is left, where there are more than so many.
+    fn halved_above<R: Viewable, O: Order>(self, most: usize, rows: &[R], order: &O) -> Range
+        requires rises { Ascending R.viewed rows.now }
+        requires between { Between R.viewed (O.keeping order.now) rows.now self.from self.size }
+        requires few { self.size ≤ most + most }
+        requires some { 0 < most }
+        ensures between { Between R.viewed (O.keeping order.now) rows.now result.from result.size }
+        ensures fewer { result.size ≤ most }
+    {
+        if self.size > most {
+            self.halved(rows, order)
+        } else {
+            self
+        }
+    }
+
     /// Where the rows part, told by the one row that is left.
     fn parted<R: Viewable, O: Order>(self, rows: &[R], order: &O) -> usize
         requires rises { Ascending R.viewed rows.now }
@@ -61,7 +77,32 @@ impl Range {
     }
 }
 
+/// How many rows an order does not keep, where it keeps the last one.
+fn before_the_last<R: Viewable, O: Order>(rows: &[R], order: &O) -> usize
+    requires rises { Ascending R.viewed rows.now }
+    requires some { 0 < length rows.now }
+    requires kept { O.keeping order.now (slice_index (views R.viewed rows.now) (length rows.now - 1)) ≡ true }
+    ensures { Parts R.viewed (O.keeping order.now) rows.now result }
+{
+    let size = rows.len() - 1;
+    if size == 0 {
+        return 0;
+    }
+    let mut range = Range { from: 0, size };
+    while range.size > 128 {
+        range = range.halved(rows, order);
+    }
+    if range.size > 8 {
+        range = range.halved_four_times(rows, order);
+    }
+    let range = range
+        .halved_above(4, rows, order)
+        .halved_above(2, rows, order);
+    range.halved_above(1, rows, order).parted(rows, order)
+}
+
 /// How many rows an order does not keep. They stand below those that it keeps.
+#[inline(always)]
 pub(crate) fn first_kept<R: Viewable, O: Order>(rows: &[R], order: &O) -> usize
     requires { Ascending R.viewed rows.now }
     ensures { Parts R.viewed (O.keeping order.now) rows.now result }
@@ -73,16 +114,5 @@ pub(crate) fn first_kept<R: Viewable, O: Order>(rows: &[R], order: &O) -> usize
     if !order.keeps(last.view()) {
         return rows.len();
     }
-    let mut range = Range {
-        from: 0,
-        size: rows.len(),
-    };
-    while range.size > 128 {
-        range = range.halved(rows, order);
-    }
-    if range.size > 8 {
-        range = range.halved_four_times(rows, order);
-    }
-    let range = range.halved(rows, order).halved(rows, order);
-    range.halved(rows, order).parted(rows, order)
+    before_the_last(rows, order)
 }

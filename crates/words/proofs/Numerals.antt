@@ -1,44 +1,28 @@
--- Digits as the library reads them.
-use Rattle.std.proofs.Common.{◌≡◌, ◌∙◌, ℕ, ◌<◌, ◌^◌, true, List, [], ◌∷◌, length, Result, Ok, Err, refl, arith, rules}
-use Rattle.std.specs.List.{list_all}
-use Rattle.std.specs.Str.Parse.{ParsesUnsigned}
-use Rattle.std.specs.Result.{OkIff}
-use Rattle.std.specs.Str.{IsAscii, IsUtf8}
-use Rattle.std.proofs.lemmas.Grind.{common_steps}
-use Rattle.std.proofs.lemmas.Str.{IsUtf8-from_ascii}
-use Rattle.std.proofs.lemmas.Str.Ascii.{IsAscii-nil, IsAscii-cons}
-use Rattle.std.proofs.lemmas.Str.Parse.{IsDigitsTest, FoldsDigits, IsNumeralModel, numerals_by_fold, parse_digits}
-use Rattle.words.specs.Classes.{decimal_digit}
-use Rattle.words.specs.Numerals.{read_on, plainly}
-use Rattle.words.proofs.Runs.{all_inside}
+-- Numbers that digits write.
+use Rattle.std.proofs.Common.{◌≡◌, ℕ, ◌+◌, ◌-◌, ◌*◌, ◌^◌, ◌<◌, ◌≤◌, Bool, true, false, cond, ltb, List, [], ◌∷◌, length, get_or, drop, Some, None, Ok, Err, Option, sym, ap, ◌∙◌, arith}
+use Rattle.std.specs.Option.{ok_or}
+use Rattle.std.proofs.lemmas.List.{at_drop_more}
+use Rattle.std.proofs.lemmas.Bool.{cond-true, cond-false, lt-ltb, le-ltb}
+use Rattle.words.specs.Numerals.{read_on}
+use Rattle.words.specs.declared.problem.Problem.TheVariants.{OutOfRange}
 
-abbrev Digits : List ℕ → Type 0
-Digits ds = list_all decimal_digit ds ≡ true
+-- further digits make no number smaller
+read_on_ge : (n : ℕ) (cs : List ℕ) → n ≤ read_on n cs
+read_on_ge n [] = omega arith
+read_on_ge n (c ∷ cs) = omega (arith, read_on_ge (n * 10 + (c - 48)) cs)
 
-tells : IsDigitsTest Digits
-tells = record { empty = refl; parts = λ c cs d. search rules; more = λ c cs k d. search rules }
+-- one digit further on
+pub read_on_more : (word : List ℕ) (n i v : ℕ) → i < length word → read_on n (drop i word) ≡ v → read_on (n * 10 + (get_or word i 0 - 48)) (drop (i + 1) word) ≡ v
+read_on_more word n i v h e = sym (at_drop_more (read_on n) word i 0 h) ∙ e
 
-folds : FoldsDigits read_on
-folds = record { empty = λ n. refl; more = λ n c cs k. refl }
+-- what a number that fits is, and one that is too large by now
+pub fits_so : (n v : ℕ) → n < 2 ^ 64 → n ≡ v → Some n ≡ cond (ltb v (2 ^ 64)) (Some v) None
+fits_so n v h e = ap Some e ∙ sym (cond-true (ltb v (2 ^ 64)) (Some v) None (lt-ltb v (2 ^ 64) (omega arith)))
 
-own : IsNumeralModel Digits (read_on 0)
-own = numerals_by_fold Digits tells read_on folds
+pub too_large : (n v : ℕ) (cs : List ℕ) → (n < 2 ^ 64 → ⊥) → read_on n cs ≡ v → cond (ltb v (2 ^ 64)) (Some v) None ≡ None
+too_large n v cs h e = cond-false (ltb v (2 ^ 64)) (Some v) None (le-ltb v (2 ^ 64) (omega (arith, read_on_ge n cs)))
 
-ascii : (ds : List ℕ) → Digits ds → IsAscii ds
-ascii [] d = IsAscii-nil
-ascii (c ∷ cs) d = let k = tells.parts c cs d in IsAscii-cons c cs (omega (arith, k.0)) (ascii cs k.1)
-
-module _ (word : List ℕ) (p : plainly word ≡ true) where
-  digits_of : Digits word
-  digits_of = all_inside decimal_digit word ∙ search rules
-
-  some_digits : 0 < length word
-  some_digits = grind (arith, common_steps)
-
-  pub plain_utf8 : IsUtf8 word
-  plain_utf8 = IsUtf8-from_ascii word (ascii word digits_of)
-
-  -- the number, unless it needs more bits
-  pub reads : {E : Type 0} (r : Result ℕ E) → ParsesUnsigned 64 10 word r → OkIff r (read_on 0 word < 2 ^ 64) (read_on 0 word)
-  reads {E = E} (Ok n) h = let d = parse_digits own {E = E} 64 word (Ok n) h digits_of in (d.0.1, d.1)
-  reads {E = E} (Err e) h = λ fits. parse_digits own {E = E} 64 word (Err e) h digits_of (some_digits, fits)
+-- the answer for a word of digits, by what was read of it
+pub read_as : (t : Bool) (o : Option ℕ) (v : ℕ) → o ≡ cond t (Some v) None → ok_or o OutOfRange ≡ cond t (Ok v) (Err OutOfRange)
+read_as true o v e = ap (λ x. ok_or x OutOfRange) e
+read_as false o v e = ap (λ x. ok_or x OutOfRange) e

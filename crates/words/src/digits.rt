@@ -1,9 +1,22 @@
-ghost use Rattle.std.specs.Prelude.{◌≡◌};
-ghost use Rattle.words.specs.Numerals.{plainly, decimal_of, number_of, short_of};
+ghost use Rattle.std.specs.Prelude.{◌≡◌, ◌^◌, if◌then◌else◌, Some, None, nat_lt};
+ghost use Rattle.words.specs.Numerals.{read_on, plainly, decimal_of, number_of, short_of};
 
 use crate::Problem;
 use crate::class::{Decimal, all};
-use std::str::from_utf8;
+
+/// The number that digits write, if it fits 64 bits. (The library's `parse` takes a `str` and any base, and three times as
+/// long.)
+fn value(word: &[u8]) -> Option<u64>
+    ensures { result ≡ (if nat_lt (read_on 0 word.now) (2 ^ 64) then Some (read_on 0 word.now) else None) }
+{
+    let mut n: u64 = 0;
+    for c in word {
+        n = n
+            .checked_mul(10)?
+            .checked_add(u64::from(c.saturating_sub(b'0')))?;
+    }
+    Some(n)
+}
 
 /// Whether a word is digits alone, with a zero in front only if nothing follows it.
 fn plain(word: &[u8]) -> bool
@@ -16,15 +29,13 @@ fn plain(word: &[u8]) -> bool
 }
 
 /// The number that a word writes in decimal, without sign or leading zeros.
-#[tactic(auto, using(crate::proofs::Numerals::plain_utf8, crate::proofs::Numerals::reads), unfolding(crate::specs::Numerals::decimal_of))]
 pub fn decimal(word: &[u8]) -> Result<u64, Problem>
     ensures { result ≡ decimal_of word.now }
 {
     if !plain(word) {
         return Err(Problem::NotANumber);
     }
-    let digits = from_utf8(word).unwrap();
-    digits.parse().map_err(|_| Problem::OutOfRange)
+    value(word).ok_or(Problem::OutOfRange)
 }
 
 /// The number that a word of a line writes.

@@ -57,9 +57,9 @@ invariant_of-self-in-Err-2 g c =
     let t = c.args.self.now in
     let q = c.in-Err.ensures in
     let n = length-take-le t.len t.rows.now t.fits in
-    let still = below_place at t.rows.now c.copy_within.new.self t.len c.in-Err.at t.rises t.fits c.view.result q (omega (arith, t.fits)) c.copy_within.ensures.after in
+    let still = below_place at t.rows.now c.move_up.new.rows t.len c.in-Err.at t.rises t.fits c.view.result q (omega (arith, t.fits)) c.move_up.ensures.after in
     record {
-      fits = omega (arith, t.fits, q.parts.within, c.copy_within.ensures.len);
+      fits = omega (arith, t.fits, q.parts.within, c.move_up.ensures.len);
       rises = subst (Ascending at) (sym still) (fewer_rise at t.len t.rows.now t.rises c.in-Err.at (omega (arith, q.parts.within)));
     }
 
@@ -68,9 +68,9 @@ invariant_of-self-in-Err-3 g c =
     let at = g.R.Viewable.viewed in
     let t = c.args.self.now in
     let gap = subst (λ v. Gap at v (entries t) c.in-Err.at) c.view.ensures c.in-Err.ensures in
-    let more = put_between at t.rows.now c.copy_within.new.self t.len c.in-Err.at t.rises t.fits c.args.row gap (omega (arith, t.fits)) c.copy_within.ensures.after in
+    let more = put_between at t.rows.now c.move_up.new.rows t.len c.in-Err.at t.rises t.fits c.args.row gap (omega (arith, t.fits)) c.move_up.ensures.after in
     record {
-      fits = omega (arith, t.fits, c.copy_within.ensures.len, length-set c.copy_within.new.self c.in-Err.at c.args.row);
+      fits = omega (arith, t.fits, c.move_up.ensures.len, length-set c.move_up.new.rows c.in-Err.at c.args.row);
       rises = subst (Ascending at) (sym more) (with_row_rises at c.args.row (entries t) t.rises);
     }
 
@@ -80,11 +80,11 @@ returns-else-len-self g c =
     let t = c.args.self.now in
     let n = length-take-le t.len t.rows.now t.fits in
     let gap = subst (λ v. Gap at v (entries t) c.in-Err.at) c.view.ensures c.in-Err.ensures in
-    let more = put_between at t.rows.now c.copy_within.new.self t.len c.in-Err.at t.rises t.fits c.args.row gap (omega (arith, t.fits)) c.copy_within.ensures.after in
+    let more = put_between at t.rows.now c.move_up.new.rows t.len c.in-Err.at t.rises t.fits c.args.row gap (omega (arith, t.fits)) c.move_up.ensures.after in
     record {
       room = room_free at (entries t) (length t.rows.now) c.args.row c.in-Err.at t.rises (omega (arith, t.fits));
       rows = more;
       one_more = subst (OneMore at true c.args.row (entries t)) (sym more) (one_more at c.args.row (entries t));
       counted = subst (Counted at true c.args.row (entries t)) (sym more) (counted at c.args.row (entries t) t.rises);
-      cap = length-set c.copy_within.new.self c.in-Err.at c.args.row ∙ c.copy_within.ensures.len;
+      cap = length-set c.move_up.new.rows c.in-Err.at c.args.row ∙ c.move_up.ensures.len;
     }

@@ -1,4 +1,5 @@
-use Rattle.std.proofs.Common.{◌-◌, sym, subst, refl, arith}
+use Rattle.std.proofs.Common.{◌≡◌, ◌+◌, ◌-◌, sym, refl, ap, ◌∙◌, subst, arith}
+use Rattle.std.specs.List.{copy_within}
 use Rattle.table.specs.Rows.{Ascending}
 use Rattle.table.specs.Laws.{OneLess, NoMore}
 use Rattle.table.specs.Tables.{entries}
@@ -31,9 +32,11 @@ pub invariant_of-self-2 : goal.invariant_of-self-2
 invariant_of-self-2 g c =
     let at = g.R.Viewable.viewed in
     let t = c.args.self.now in
-    let left = cut_out at t.rows.now c.copy_within.new.self t.len c.in-Ok.at t.rises t.fits c.args.view c.in-Ok.ensures c.copy_within.ensures.after in
+    let place : c.in-Ok.at + 1 - 1 ≡ c.in-Ok.at = omega arith in
+    let down = c.move_down.ensures.after ∙ ap (copy_within t.rows.now (c.in-Ok.at + 1) t.len) place in
+    let left = cut_out at t.rows.now c.move_down.new.rows t.len c.in-Ok.at t.rises t.fits c.args.view c.in-Ok.ensures down in
     record {
-      fits = omega (arith, t.fits, c.copy_within.ensures.len);
+      fits = omega (arith, t.fits, c.move_down.ensures.len);
       rises = subst (Ascending at) (sym left) (without_rises at c.args.view (entries t) t.rises);
     }
 
@@ -42,10 +45,12 @@ returns g c =
     let at = g.R.Viewable.viewed in
     let t = c.args.self.now in
     let old = entries t in
-    let left = cut_out at t.rows.now c.copy_within.new.self t.len c.in-Ok.at t.rises t.fits c.args.view c.in-Ok.ensures c.copy_within.ensures.after in
+    let place : c.in-Ok.at + 1 - 1 ≡ c.in-Ok.at = omega arith in
+    let down = c.move_down.ensures.after ∙ ap (copy_within t.rows.now (c.in-Ok.at + 1) t.len) place in
+    let left = cut_out at t.rows.now c.move_down.new.rows t.len c.in-Ok.at t.rises t.fits c.args.view c.in-Ok.ensures down in
     record {
       rows = left;
       one_less = subst (OneLess at c.args.view old) (sym left) (one_less at c.args.view old);
       no_more = subst (NoMore old) (sym left) (no_more_without at c.args.view old);
-      cap = c.copy_within.ensures.len;
+      cap = c.move_down.ensures.len;
     }

@@ -1,4 +1,5 @@
-use Rattle.std.proofs.Common.{◌-◌, sym, subst, arith}
+use Rattle.std.proofs.Common.{◌≡◌, ◌-◌, sym, ap, ◌∙◌, subst, arith}
+use Rattle.std.specs.List.{copy_within}
 use Rattle.table.specs.Rows.{Ascending}
 use Rattle.table.specs.Laws.{OnlyKept, NoMore}
 use Rattle.table.specs.Tables.{entries}
@@ -19,9 +20,12 @@ invariant_of-self-2 g c =
     let at = g.R.Viewable.viewed in
     let p = g.O.Order.keeping c.args.order.now in
     let t = c.args.self.now in
-    let left = cut_off at t.rows.now c.copy_within.new.self t.len c.first_kept-n.result t.rises t.fits p c.first_kept-n.ensures c.copy_within.ensures.after in
+    let n = c.first_kept-n.result in
+    let front : n - n ≡ 0 = omega arith in
+    let down = c.move_down.ensures.after ∙ ap (copy_within t.rows.now n t.len) front in
+    let left = cut_off at t.rows.now c.move_down.new.rows t.len n t.rises t.fits p c.first_kept-n.ensures down in
     record {
-      fits = omega (arith, t.fits, c.copy_within.ensures.len);
+      fits = omega (arith, t.fits, c.move_down.ensures.len);
       rises = subst (Ascending at) (sym left) (kept_rises at p (entries t) t.rises);
     }
 
@@ -31,10 +35,13 @@ returns g c =
     let p = g.O.Order.keeping c.args.order.now in
     let t = c.args.self.now in
     let old = entries t in
-    let left = cut_off at t.rows.now c.copy_within.new.self t.len c.first_kept-n.result t.rises t.fits p c.first_kept-n.ensures c.copy_within.ensures.after in
+    let n = c.first_kept-n.result in
+    let front : n - n ≡ 0 = omega arith in
+    let down = c.move_down.ensures.after ∙ ap (copy_within t.rows.now n t.len) front in
+    let left = cut_off at t.rows.now c.move_down.new.rows t.len n t.rises t.fits p c.first_kept-n.ensures down in
     record {
       rows = left;
       only_kept = subst (OnlyKept at p old) (sym left) (only_kept at p old);
       no_more = subst (NoMore old) (sym left) (no_more_kept at p old);
-      cap = c.copy_within.ensures.len;
+      cap = c.move_down.ensures.len;
     }
