@@ -1,12 +1,14 @@
 ghost use Rattle.std.specs.Prelude.{◌≡◌, true, [], ◌∷◌, ◌++◌, length, IfOk};
 ghost use Rattle.std.specs.Io.KnownBytes.{Appends};
+ghost use Rattle.std.specs.Str.{bytes_eq};
 ghost use Rattle.recordings.specs.Entries.{Begun};
 ghost use Rattle.recordings.specs.Replays.{Given, Compared};
 ghost use Rattle.recordings.specs.Tallies.{agreed, tally_text};
 
 use crate::comparing::tell;
 use crate::{Entry, Recording, Tally};
-use replies::Asker;
+use replies::{Answerer, Asker, Turn};
+use std::alloc::Global;
 use std::io;
 use std::io::Write;
 
@@ -18,6 +20,13 @@ pub struct Replay<'a, W: Drop> {
     recorded: &'a [u8],
     out: W,
     tally: Tally,
+}
+
+/// Whether an answer is the recorded one.
+fn is_same(answer: &[u8], recorded: &[u8]) -> bool
+    ensures { result ≡ bytes_eq answer.now recorded.now }
+{
+    answer == recorded
 }
 
 impl<'a, W: Write + Drop> Replay<'a, W> {
@@ -65,13 +74,22 @@ impl<'a, W: Write + Drop> Asker<'a> for Replay<'a, W> {
         Some((line, command))
     }
 
-    fn take(&mut self, line: u64, answer: &[u8], command: bool) -> io::Result<()> {
-        let same = answer == self.recorded;
+    fn take<T: Answerer>(
+        &mut self,
+        heap: Global,
+        line: u64,
+        text: &[u8],
+        answerer: &mut T,
+    ) -> io::Result<Turn> {
+        let mut answered = Vec::new(heap);
+        let turn = answerer.answer(&mut answered, heap, line, text)?;
+        let command = turn.is_command();
+        let same = is_same(answered.as_slice(), self.recorded);
         self.tally = self.tally.with(same, command);
         if same {
-            Ok(())
-        } else {
-            tell(&mut self.out, line, answer)
+            return Ok(turn);
         }
+        tell(&mut self.out, line, answered.as_slice())?;
+        Ok(turn)
     }
 }

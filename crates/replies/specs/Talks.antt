@@ -7,6 +7,13 @@ use Rattle.replies.specs.declared.turn.Turn.{Turn}
 use Rattle.replies.specs.declared.turn.Turn.TheVariants.{Member}
 
 -- `answers` is what the line of a number and a text is answered, and what that makes of the one who answers
+module _ {S M : Type 0} (taken : S → ℕ → List ℕ → Bool → S → Type 0) (answers : ℕ → List ℕ → Turn → M → M → List ℕ → Type 0) where
+  -- the line of this number and text is answered, and the answer is taken
+  pub record Took (s : S) (line : ℕ) (text : List ℕ) (m : M) (turn : Turn) (u : S) (n : M) : Type 0 where
+    pub answer : List ℕ
+    pub answered : answers line text turn m n answer
+    pub took : taken s line answer (commands turn) u
+
 module _ {S M : Type 0} (given : S → Option (ℕ × Bor (List ℕ)) → S → Type 0) (taken : S → ℕ → List ℕ → Bool → S → Type 0) (answers : ℕ → List ℕ → Turn → M → M → List ℕ → Type 0) where
   pub record Round (s : S) (m : M) (turn : Turn) (u : S) (n : M) : Type 0 where
     pub line : ℕ

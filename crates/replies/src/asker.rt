@@ -1,6 +1,9 @@
-ghost use Rattle.std.specs.Prelude.{◌≡◌, ℕ, ◌<◌, ◌≤◌, Bool, List, Option, OnOk, MatchOption};
+ghost use Rattle.std.specs.Prelude.{◌≡◌, ℕ, ◌<◌, ◌≤◌, Bool, List, Option, IfOk, MatchOption};
 ghost use Rattle.std.specs.Borrow.{Bor};
+ghost use Rattle.replies.specs.Talks.{Took};
 
+use crate::{Answerer, Turn};
+use std::alloc::Global;
 use std::io;
 
 /// What gives the lines of a script, and takes the answer to each.
@@ -19,8 +22,14 @@ pub trait Asker<'a> {
         ensures given { given self.old result self.new }
         ensures left { MatchOption result (left self.new ≤ left self.old) (λ _. left self.new < left self.old) };
 
-    /// Takes what the line of this number was answered, and whether it was a command.
-    fn take(&mut self, line: u64, answer: &[u8], command: bool) -> io::Result<()>
-        ensures taken { OnOk result (taken self.old line answer.now command self.new) }
-        ensures left { OnOk result (left self.new ≡ left self.old) };
+    /// Has the line of this number answered, to where its answer goes, and takes the answer.
+    fn take<T: Answerer>(
+        &mut self,
+        heap: Global,
+        line: u64,
+        text: &[u8],
+        answerer: &mut T,
+    ) -> io::Result<Turn>
+        ensures taken { IfOk result (λ turn. Took taken T.answers self.old line text.now answerer.old turn self.new answerer.new) }
+        ensures left { IfOk result (λ _. left self.new ≡ left self.old) };
 }

@@ -1,6 +1,7 @@
 //! What a member answers to each line of a script, and what is made of the answers.
 #![tactic(auto)]
 
+pub mod answerer;
 pub mod answering;
 pub mod asker;
 pub mod lives;
@@ -8,6 +9,7 @@ pub mod played;
 pub mod talking;
 pub mod turn;
 
+pub use answerer::Answerer;
 pub use answering::{answer, answer_alone};
 pub use asker::Asker;
 pub use lives::answer_all;

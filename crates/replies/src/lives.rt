@@ -4,7 +4,7 @@ ghost use Rattle.replies.specs.Lives.{Life, LifeOn, Lived};
 ghost use Rattle.row_board.specs.Boards.{open_asks};
 
 use crate::Asker;
-use crate::talking::{with_member, without_member};
+use crate::talking::talk;
 use board::{Ask, Lent, Open, PLACES};
 use list_board::ListBoard;
 use one_member::{Admitted, Member};
@@ -28,7 +28,7 @@ fn on_rows<'a, A: Asker<'a>>(
     let mut rows = [Row::new(0); PLACES];
     let lent = Lent::test(&mut rows).unwrap();
     let mut member = Member::new(admitted, places.lend(), RowBoard::new(lent));
-    with_member(heap, asker, &mut member)
+    talk(heap, asker, &mut member)
 }
 
 /// Makes a member with a board in order of arrival, and has it answer the lines up to one that makes another.
@@ -45,7 +45,7 @@ fn on_list<'a, A: Asker<'a>>(
     let mut list = [Open::new(0, Ask::Background, None); PLACES];
     let lent = Lent::test(&mut list).unwrap();
     let mut member = Member::new(admitted, places.lend(), ListBoard::new(lent));
-    with_member(heap, asker, &mut member)
+    talk(heap, asker, &mut member)
 }
 
 /// Makes a member with the board that was asked for, and has it answer the lines up to one that makes another.
@@ -68,7 +68,7 @@ fn one_life<'a, A: Asker<'a>>(
 pub fn answer_all<'a, A: Asker<'a>>(heap: Global, asker: &mut A) -> io::Result<()>
     ensures { OnOk result (Lived A.given A.taken asker.old None asker.new) }
 {
-    let mut next = without_member(heap, asker)?;
+    let mut next = talk(heap, asker, &mut ())?;
     while let Some(admitted) = next {
         next = one_life(heap, asker, admitted)?;
     }

@@ -2,8 +2,9 @@ ghost use Rattle.std.specs.Prelude.{◌≡◌, true, ◌&&◌, length};
 ghost use Rattle.std.specs.Io.KnownBytes.{Appends};
 ghost use Rattle.script.specs.Steps.{Counted};
 
-use crate::Asker;
+use crate::{Answerer, Asker, Turn};
 use script::Numbered;
+use std::alloc::Global;
 use std::io;
 use std::io::Write;
 
@@ -41,8 +42,16 @@ impl<'a, W: Write + Drop> Asker<'a> for Played<'a, W> {
         self.lines.next()
     }
 
-    fn take(&mut self, _line: u64, answer: &[u8], command: bool) -> io::Result<()> {
+    fn take<T: Answerer>(
+        &mut self,
+        heap: Global,
+        line: u64,
+        text: &[u8],
+        answerer: &mut T,
+    ) -> io::Result<Turn> {
+        let turn = answerer.answer(&mut self.out, heap, line, text)?;
+        let command = turn.is_command();
         self.clean = self.clean && command;
-        self.out.write_all(answer)
+        Ok(turn)
     }
 }

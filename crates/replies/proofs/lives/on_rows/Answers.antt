@@ -25,8 +25,8 @@ returns-clause-life g c =
       memory = made.fits ∙ lent.memory;
       list = subst (λ list. 256 ≤ length list) (sym made.list) lent.effects;
     } in
-    says_more c.with_member.result
-    (λ next. Talk g.A.Asker.given g.A.Asker.taken (AnsweredBy open_asks) c.args.asker.now c.new-member.result next c.with_member.new.asker c.with_member.new.member)
-    (λ next. Life g.A.Asker.given g.A.Asker.taken open_asks c.args.admitted c.args.asker.now next c.with_member.new.asker)
-    (λ next talk. record { begun = c.new-member.result; ended = c.with_member.new.member; is_fresh = begun; talk = talk })
-    c.with_member.ensures.talk
+    says_more c.talk.result
+    (λ next. Talk g.A.Asker.given g.A.Asker.taken (AnsweredBy open_asks) c.args.asker.now c.new-member.result next c.talk.new.asker c.talk.new.answerer)
+    (λ next. Life g.A.Asker.given g.A.Asker.taken open_asks c.args.admitted c.args.asker.now next c.talk.new.asker)
+    (λ next talk. record { begun = c.new-member.result; ended = c.talk.new.answerer; is_fresh = begun; talk = talk })
+    c.talk.ensures.talk
